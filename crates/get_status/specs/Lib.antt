@@ -1,0 +1,3 @@
+pub mod Names
+pub mod Reply
+pub mod Dfu11

@@ -1,0 +1,3 @@
+pub mod Pick
+pub mod Said
+pub mod Bytes

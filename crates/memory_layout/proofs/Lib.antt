@@ -1,0 +1,6 @@
+pub mod Digits
+pub mod Scan
+pub mod Pieces
+pub mod Turns
+pub mod Accepted
+pub mod Store

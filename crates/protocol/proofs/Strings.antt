@@ -1,0 +1,74 @@
+-- Laws of the interface string's definition: one for each way that its reader goes. Assumes nothing.
+use Prim.Native.Nat.{ℕ, _+_, _-_}
+use mathlib.Core.Path.{_≡_, refl, sym, ap, _∙_}
+use mathlib.Core.List.{List, [], _∷_}
+use mathlib.Core.Bool.{true, false}
+use lib.ListN.{length, take, drop}
+use Rattle.ground.specs.Bytes.{prefix}
+use Rattle.ground.proofs.Lists.{onwards}
+use Rattle.memory_layout.specs.Number.{numberOf}
+use Rattle.memory_layout.specs.Layout as layout
+use Rattle.memory_layout.specs.declared.Error.{Error as LayoutFault}
+use Rattle.memory_layout.specs.declared.MemoryLayout.{MemoryLayout}
+use Rattle.memory_layout.specs.declared.MemoryLayout.the-variants.{Pages, Refused as RefusedLayout}
+use Rattle.protocol.specs.declared.DfuProtocol.the-variants.{Dfuse}
+use Rattle.protocol.specs.declared.Error.the-variants.{InvalidInterfaceString, MemoryLayout as LayoutError}
+use Rattle.protocol.specs.declared.Interface.the-variants.{Read, Refused}
+use Rattle.protocol.specs.declared.Slash.the-variants.{At as SlashAt, Nowhere}
+use Rattle.protocol.specs.declared.Address.the-variants.{At, NoSlash, Bad}
+use Rattle.protocol.specs.Interface.{rsplit, placeOf, valueOf, addressOf, answered, done, settled, dfuseOf}
+use Rattle.protocol.proofs.Cuts.{at, nowhere}
+
+-- the text after a slash, as the code has it
+abbrev pub after : List ℕ → ℕ → List ℕ
+after s i = take (length s - (i + 1)) (drop (i + 1) s)
+
+pub no-address : (s : List ℕ) → placeOf (rsplit s) ≡ Nowhere → addressOf (rsplit s) ≡ NoSlash
+unfolding addressOf
+no-address s e = rw (nowhere s e)
+
+module _ (s : List ℕ) (i : ℕ) (e : placeOf (rsplit s) ≡ SlashAt i) where
+  pub bad-start : prefix (48 ∷ 120 ∷ []) (after s i) ≡ false → addressOf (rsplit s) ≡ Bad
+  unfolding addressOf
+  bad-start h = rw (at s i e .1) (simp (sym (ap (prefix (48 ∷ 120 ∷ [])) (onwards (i + 1) s)) ∙ h))
+
+  pub valued : prefix (48 ∷ 120 ∷ []) (after s i) ≡ true → addressOf (rsplit s) ≡ valueOf (numberOf 16 (take (length (after s i) - 2) (drop 2 (after s i))))
+  unfolding addressOf
+  valued h =
+      rw (at s i e .1, onwards 2 (after s i))
+      (simp (sym (ap (prefix (48 ∷ 120 ∷ [])) (onwards (i + 1) s)) ∙ h) (ap (λ (t : List ℕ). valueOf (numberOf 16 (drop 2 t))) (sym (onwards (i + 1) s))))
+
+pub no-layout : (s store : List ℕ) → placeOf (rsplit s) ≡ Nowhere → dfuseOf (rsplit s) store ≡ done (Refused InvalidInterfaceString) store
+unfolding dfuseOf
+no-layout s store e = rw (nowhere s e)
+
+pub with-layout : (s store : List ℕ) (i : ℕ) → placeOf (rsplit s) ≡ SlashAt i
+    → dfuseOf (rsplit s) store ≡ settled (answered (layout.checked (length store) (after s i)) (addressOf (rsplit (take i s)))) (after s i) store
+unfolding dfuseOf
+with-layout s store i e =
+    rw (at s i e .1) (ap (λ (t : List ℕ). settled (answered (layout.checked (length store) t) (addressOf (rsplit (take i s)))) t store) (sym (onwards (i + 1) s)))
+
+-- a layout that was read, and what stands in the store then
+module _ (r : MemoryLayout) (text before now : List ℕ) (e : layout.done r now ≡ layout.layoutOf text before) where
+  read-as : r ≡ layout.checked (length before) text
+  unfolding layout.layoutOf
+  read-as = ap (λ (d : layout.Done). d .answer) e
+
+  holds : now ≡ layout.storedBy (layout.checked (length before) text) text before
+  unfolding layout.layoutOf
+  holds = ap (λ (d : layout.Done). d .store) e
+
+  pub stored : (n a : ℕ) → r ≡ Pages n → done (Read (Dfuse a) n) now ≡ settled (answered (layout.checked (length before) text) (At a)) text before
+  stored n a p = let c : layout.checked (length before) text ≡ Pages n = sym read-as ∙ p in rw c (ap (done (Read (Dfuse a) n)) (holds ∙ rw c))
+
+  pub kept : (f : LayoutFault) (a : ℕ) → r ≡ RefusedLayout f → done (Refused (LayoutError f)) now ≡ settled (answered (layout.checked (length before) text) (At a)) text before
+  kept f a p = let c : layout.checked (length before) text ≡ RefusedLayout f = sym read-as ∙ p in rw c (ap (done (Refused (LayoutError f))) (holds ∙ rw c))
+
+-- a refusal settles with the store as it was
+pub refuses : (l : MemoryLayout) (text before : List ℕ) → done (answered l NoSlash) before ≡ settled (answered l NoSlash) text before
+refuses (Pages n) text before = refl
+refuses (RefusedLayout f) text before = refl
+
+pub refuses-bad : (l : MemoryLayout) (text before : List ℕ) → done (answered l Bad) before ≡ settled (answered l Bad) text before
+refuses-bad (Pages n) text before = refl
+refuses-bad (RefusedLayout f) text before = refl

@@ -1,0 +1,118 @@
+-- What a version and an interface string announce: document 01, 'The interface string'.
+use Prim.Native.Nat.{ℕ}
+use mathlib.Core.List.{List, [], _∷_, _++_}
+use lib.ListN.{length, drop}
+use lib.Dec.{eqb, ltb}
+use Rattle.ground.specs.Pick.{pick}
+use Rattle.ground.specs.Said.{Said, says}
+use Rattle.ground.specs.Bytes.{prefix}
+use Rattle.ground.specs.declared.Version.{Version}
+use Rattle.memory_layout.specs.Number.{numberOf}
+use Rattle.memory_layout.specs.Layout.{maxText, checked, storedBy, saidError}
+use Rattle.memory_layout.specs.declared.number.Number.{Number}
+use Rattle.memory_layout.specs.declared.number.Number.the-variants.{Value, Bad as BadNumber}
+use Rattle.memory_layout.specs.declared.MemoryLayout.{MemoryLayout}
+use Rattle.memory_layout.specs.declared.MemoryLayout.the-variants.{Pages, Refused as RefusedLayout}
+use Rattle.protocol.specs.declared.DfuProtocol.{DfuProtocol}
+use Rattle.protocol.specs.declared.DfuProtocol.the-variants.{Dfu, Dfuse}
+use Rattle.protocol.specs.declared.Error.{Error}
+use Rattle.protocol.specs.declared.Error.the-variants.{
+  UnknownProtocol,
+  TextTooLong,
+  InvalidInterfaceString,
+  MemoryLayout as LayoutError,
+  InvalidAddress,
+}
+use Rattle.protocol.specs.declared.Interface.{Interface}
+use Rattle.protocol.specs.declared.Interface.the-variants.{Read, Refused}
+use Rattle.protocol.specs.declared.Slash.{Slash}
+use Rattle.protocol.specs.declared.Slash.the-variants.{At as SlashAt, Nowhere}
+use Rattle.protocol.specs.declared.Address.{Address}
+use Rattle.protocol.specs.declared.Address.the-variants.{At, NoSlash, Bad}
+use Rattle.protocol.specs.declared.UsbWriteControl.{UsbWriteControl}
+
+-- a text with no slash, or what stands before and after its last one
+pub data Cut : Type 0 where
+  whole : Cut
+  cut : List ℕ → List ℕ → Cut
+
+abbrev pub grown : ℕ → List ℕ → Cut → Cut
+grown c cs whole = pick (eqb c 47) (cut [] cs) whole
+grown c cs (cut rest tail) = cut (c ∷ rest) tail
+
+unfoldable pub rsplit : List ℕ → Cut
+rsplit [] = whole
+rsplit (c ∷ cs) = grown c cs (rsplit cs)
+
+-- the slash's place
+abbrev pub placeOf : Cut → Slash
+placeOf whole = Nowhere
+placeOf (cut rest tail) = SlashAt (length rest)
+
+-- the two bytes `0x`, then hex digits
+abbrev pub valueOf : Number → Address
+valueOf BadNumber = Bad
+valueOf (Value v) = At v
+
+unfoldable pub addressOf : Cut → Address
+addressOf whole = NoSlash
+addressOf (cut name text) = pick (prefix (48 ∷ 120 ∷ []) text) (valueOf (numberOf 16 (drop 2 text))) Bad
+
+-- a layout fault comes before a missing second slash (8), and that before a bad address (13)
+abbrev pub refusedBy : MemoryLayout → Error → Interface
+refusedBy (RefusedLayout e) other = Refused (LayoutError e)
+refusedBy (Pages n) other = Refused other
+
+abbrev pub answered : MemoryLayout → Address → Interface
+answered layout NoSlash = refusedBy layout InvalidInterfaceString
+answered layout Bad = refusedBy layout InvalidAddress
+answered (RefusedLayout e) (At a) = Refused (LayoutError e)
+answered (Pages n) (At a) = Read (Dfuse a) n
+
+-- the answer, and the store after it
+pub record Done : Type 0 where
+  pub answer : Interface
+  pub store : List ℕ
+
+abbrev pub done : Interface → List ℕ → Done
+done r store = record { answer = r; store = store }
+
+-- pages are stored on acceptance, and nothing on a refusal
+abbrev pub settled : Interface → List ℕ → List ℕ → Done
+settled (Read p n) layout store = done (Read p n) (storedBy (Pages n) layout store)
+settled (Refused e) layout store = done (Refused e) store
+
+-- the text after the last slash is the layout; no slash is 8
+unfoldable pub dfuseOf : Cut → List ℕ → Done
+dfuseOf whole store = done (Refused InvalidInterfaceString) store
+dfuseOf (cut rest layout) store = settled (answered (checked (length store) layout) (addressOf (rsplit rest))) layout store
+
+-- (1, 0x10) is plain DFU, the string unread; (1, 0x1a) is DfuSe, a string over 1,024 bytes being 20; others are 7
+unfoldable pub interfaceOf : List ℕ → Version → List ℕ → Done
+interfaceOf s version store =
+    pick (eqb (version .0) 1)
+    (pick (eqb (version .1) 0x10) (done (Read Dfu 0) store)
+    (pick (eqb (version .1) 0x1a)
+    (pick (ltb maxText (length s)) (done (Refused TextTooLong) store) (dfuseOf (rsplit s) store))
+    (done (Refused UnknownProtocol) store)))
+    (done (Refused UnknownProtocol) store)
+
+-- type 0x21; detach 0 with value 1,000 and no data
+abbrev pub detachRequest : UsbWriteControl
+detachRequest = record { «request_type» = 0x21; request = 0; value = 1000 }
+
+-- document 01's number and values for each answer
+abbrev pub saidProtocol : DfuProtocol → ℕ → Said
+saidProtocol Dfu n = says 0 []
+saidProtocol (Dfuse a) n = says 0 (a ∷ n ∷ [])
+
+abbrev pub saidRefusal : Error → Said
+saidRefusal UnknownProtocol = says 7 []
+saidRefusal TextTooLong = says 20 []
+saidRefusal InvalidInterfaceString = says 8 []
+saidRefusal (LayoutError e) = saidError e
+saidRefusal InvalidAddress = says 13 []
+
+abbrev pub saidOf : Interface → Said
+saidOf (Read p n) = saidProtocol p n
+saidOf (Refused e) = saidRefusal e
