@@ -1,16 +1,18 @@
 -- What DFU 1.1's reply lays out is what the reader finds, whatever follows it. Assumes nothing.
 use Prim.Native.Nat.{ℕ, _+_, _*_, _/_, _%_}
-use mathlib.Core.Path.{_≡_}
+use mathlib.Core.Path.{_≡_, refl}
 use mathlib.Core.List.{List, _++_}
 use native.Mathlib.Omega.{arith}
 use lib.ListN.{length}
 use borrow.Author.Tests.{le-ltb}
 use Rattle.ground.specs.Bytes.{littleEndian, field}
+use Rattle.get_status.specs.declared.State.{State}
+use Rattle.get_status.specs.declared.State.the-variants.{AppIdle, AppDetach, DfuIdle, DfuDnloadSync, DfuDnbusy, DfuDnloadIdle, DfuManifestSync, DfuManifest, DfuManifestWaitReset, DfuUploadIdle, DfuError}
 use Rattle.get_status.specs.declared.GetStatusMessage.{GetStatusMessage}
 use Rattle.get_status.specs.declared.Reply.the-variants.{Read}
-use Rattle.get_status.specs.Names.{stateOf, statusOf, settled}
+use Rattle.get_status.specs.Names.{stateOf, stateByte, statusOf, settled}
 use Rattle.get_status.specs.Reply.{replyOf}
-use Rattle.get_status.specs.Dfu11.{StatusReply, bytesOf}
+use Rattle.get_status.specs.Dfu11.{StatusReply, bytesOf, DfuState, bStateOf, appIDLE, appDETACH, dfuIDLE, dfuDNLOAD-SYNC, dfuDNBUSY, dfuDNLOAD-IDLE, dfuMANIFEST-SYNC, dfuMANIFEST, dfuMANIFEST-WAIT-RESET, dfuUPLOAD-IDLE, dfuERROR}
 
 -- the reply's fields under the Rust's names, 6 taken as 7 and 3 as 4
 abbrev pub named : StatusReply → GetStatusMessage
@@ -27,3 +29,30 @@ triple n = omega arith
 pub reads-the-reply : (r : StatusReply) (more : List ℕ) → replyOf (bytesOf r ++ more) ≡ Read (named r)
 unfolding field littleEndian
 reads-the-reply r more = simp (le-ltb (length (bytesOf r ++ more)) 6 (omega arith), triple (r .bwPollTimeout))
+
+-- the paper's states under the Rust's names have the paper's numbers
+abbrev pub stateNamed : DfuState → State
+stateNamed appIDLE = AppIdle
+stateNamed appDETACH = AppDetach
+stateNamed dfuIDLE = DfuIdle
+stateNamed dfuDNLOAD-SYNC = DfuDnloadSync
+stateNamed dfuDNBUSY = DfuDnbusy
+stateNamed dfuDNLOAD-IDLE = DfuDnloadIdle
+stateNamed dfuMANIFEST-SYNC = DfuManifestSync
+stateNamed dfuMANIFEST = DfuManifest
+stateNamed dfuMANIFEST-WAIT-RESET = DfuManifestWaitReset
+stateNamed dfuUPLOAD-IDLE = DfuUploadIdle
+stateNamed dfuERROR = DfuError
+
+pub state-numbers : (s : DfuState) → (stateByte (stateNamed s) ≡ bStateOf s) × (stateOf (bStateOf s) ≡ stateNamed s)
+state-numbers appIDLE = (refl, refl)
+state-numbers appDETACH = (refl, refl)
+state-numbers dfuIDLE = (refl, refl)
+state-numbers dfuDNLOAD-SYNC = (refl, refl)
+state-numbers dfuDNBUSY = (refl, refl)
+state-numbers dfuDNLOAD-IDLE = (refl, refl)
+state-numbers dfuMANIFEST-SYNC = (refl, refl)
+state-numbers dfuMANIFEST = (refl, refl)
+state-numbers dfuMANIFEST-WAIT-RESET = (refl, refl)
+state-numbers dfuUPLOAD-IDLE = (refl, refl)
+state-numbers dfuERROR = (refl, refl)

@@ -22,35 +22,28 @@ bytesOf r =
     ∷ []
 
 -- bState
-abbrev pub appIDLE : ℕ
-appIDLE = 0
+pub data DfuState : Type 0 where
+  appIDLE : DfuState
+  appDETACH : DfuState
+  dfuIDLE : DfuState
+  dfuDNLOAD-SYNC : DfuState
+  dfuDNBUSY : DfuState
+  dfuDNLOAD-IDLE : DfuState
+  dfuMANIFEST-SYNC : DfuState
+  dfuMANIFEST : DfuState
+  dfuMANIFEST-WAIT-RESET : DfuState
+  dfuUPLOAD-IDLE : DfuState
+  dfuERROR : DfuState
 
-abbrev pub appDETACH : ℕ
-appDETACH = 1
-
-abbrev pub dfuIDLE : ℕ
-dfuIDLE = 2
-
-abbrev pub dfuDNLOAD-SYNC : ℕ
-dfuDNLOAD-SYNC = 3
-
-abbrev pub dfuDNBUSY : ℕ
-dfuDNBUSY = 4
-
-abbrev pub dfuDNLOAD-IDLE : ℕ
-dfuDNLOAD-IDLE = 5
-
-abbrev pub dfuMANIFEST-SYNC : ℕ
-dfuMANIFEST-SYNC = 6
-
-abbrev pub dfuMANIFEST : ℕ
-dfuMANIFEST = 7
-
-abbrev pub dfuMANIFEST-WAIT-RESET : ℕ
-dfuMANIFEST-WAIT-RESET = 8
-
-abbrev pub dfuUPLOAD-IDLE : ℕ
-dfuUPLOAD-IDLE = 9
-
-abbrev pub dfuERROR : ℕ
-dfuERROR = 10
+abbrev pub bStateOf : DfuState → ℕ
+bStateOf appIDLE = 0
+bStateOf appDETACH = 1
+bStateOf dfuIDLE = 2
+bStateOf dfuDNLOAD-SYNC = 3
+bStateOf dfuDNBUSY = 4
+bStateOf dfuDNLOAD-IDLE = 5
+bStateOf dfuMANIFEST-SYNC = 6
+bStateOf dfuMANIFEST = 7
+bStateOf dfuMANIFEST-WAIT-RESET = 8
+bStateOf dfuUPLOAD-IDLE = 9
+bStateOf dfuERROR = 10

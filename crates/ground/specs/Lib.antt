@@ -1,3 +1,4 @@
 pub mod Pick
 pub mod Said
+pub mod Text
 pub mod Bytes

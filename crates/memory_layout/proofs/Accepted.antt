@@ -37,10 +37,10 @@ module _ (room : ℕ) (s : List ℕ) (a k n : ℕ) (acc : pieces room (split (dr
   no-fault r e = let f = fault room s a k r e in let z : _≡_ {A = ℕ} 0 1 = cc in omega arith
 
   module _ (count size : ℕ) (run : pieceOf (upTo 44 (drop a s)) a ≡ Run count size) where
-    pub space : count ≤ room - k
+    pub space : k + count ≤ room
     space =
         ⊎-elim (λ g. absurd (let f = full room s a k count size run g in let z : _≡_ {A = ℕ} 0 1 = cc in omega arith)) (λ l. l)
-        (lt-or-ge (room - k) count)
+        (lt-or-ge room (k + count))
 
     pub ends : a ≤ length s → endOf 44 s a ≡ length s → n ≡ k + count
     ends l e = let f = last room s a k count size run space l e in cc

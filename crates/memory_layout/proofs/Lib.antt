@@ -4,3 +4,4 @@ pub mod Pieces
 pub mod Turns
 pub mod Accepted
 pub mod Store
+pub mod Printed

@@ -53,14 +53,14 @@ module _ (room : ℕ) (s : List ℕ) (a n : ℕ) where
   fault r e = rw (some-pieces (drop a s) .1) (simp e)
 
   module _ (count size : ℕ) (run : pieceOf (upTo 44 (drop a s)) a ≡ Run count size) where
-    pub full : room - n < count → pieces room (split (drop a s)) a n ≡ Refused TooManyPages
+    pub full : room < n + count → pieces room (split (drop a s)) a n ≡ Refused TooManyPages
     unfolding pieces
-    full h = rw (some-pieces (drop a s) .1) (simp (run, lt-ltb (room - n) count h))
+    full h = rw (some-pieces (drop a s) .1) (simp (run, lt-ltb room (n + count) h))
 
-    module _ (h : count ≤ room - n) where
+    module _ (h : n + count ≤ room) where
       pub last : a ≤ length s → endOf 44 s a ≡ length s → pieces room (split (drop a s)) a n ≡ Pages (n + count)
       unfolding pieces endOf
-      last l e = rw (one-piece (drop a s) (omega (arith, length-drop a s))) (simp (run, le-ltb (room - n) count h))
+      last l e = rw (one-piece (drop a s) (omega (arith, length-drop a s))) (simp (run, le-ltb room (n + count) h))
 
       pub onward : (e : ℕ) → e ≡ endOf 44 s a → e < length s
           → pieces room (split (drop a s)) a n ≡ pieces room (split (drop (e + 1) s)) (e + 1) (n + count)
@@ -69,4 +69,4 @@ module _ (room : ℕ) (s : List ℕ) (a n : ℕ) where
           let j : a + suc (length (upTo 44 (drop a s))) ≡ e + 1 = omega arith in
           let d : drop (suc (length (upTo 44 (drop a s)))) (drop a s) ≡ drop (e + 1) s = drop-drop _ a s ∙ ap (λ (m : ℕ). drop m s) j in
           let o : a + length (upTo 44 (drop a s)) + 1 ≡ e + 1 = omega arith in
-          rw (more-pieces (drop a s) (omega (arith, length-drop a s))) (simp (run, le-ltb (room - n) count h, d, o))
+          rw (more-pieces (drop a s) (omega (arith, length-drop a s))) (simp (run, le-ltb room (n + count) h, d, o))

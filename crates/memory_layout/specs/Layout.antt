@@ -77,10 +77,10 @@ unfoldable pub pieceOf : List ℕ → ℕ → Piece
 pieceOf p at =
     pick (eqb (length (upTo 42 p)) (length p)) (Fault (InvalidPageFormat at (length p))) (starred (upTo 42 p) (drop (length (upTo 42 p) + 1) p) at)
 
--- with n pages so far: more than there is room for is 22
+-- n pages so far, and those of a piece: over what there is room for is 22
 abbrev pub onward : ℕ → ℕ → Piece → (ℕ → MemoryLayout) → MemoryLayout
 onward room n (Fault e) more = Refused e
-onward room n (Run count size) more = pick (ltb (room - n) count) (Refused TooManyPages) (more (n + count))
+onward room n (Run count size) more = pick (ltb room (n + count)) (Refused TooManyPages) (more (n + count))
 
 -- the pieces in order, up to the first fault
 unfoldable pub pieces : ℕ → List (List ℕ) → ℕ → ℕ → MemoryLayout

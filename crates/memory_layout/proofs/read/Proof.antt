@@ -130,7 +130,7 @@ pieces-again c =
     let q : e .result < length s = omega (arith, e .ensures, end-in 44 s (l .i) (l .inv .1)) in (
       omega arith,
       omega arith,
-      sym (onward (g .room) s (o .a) (o .n) _ _ (this ∙ c .before .before .before .p2 .given .1) (c .before .if4 .left) (e .result) (e .ensures ∙ sym (l .inv .2)) q) ∙ o .inv .2,
+      sym (onward (g .room) s (o .a) (o .n) _ _ (this ∙ c .before .before .before .p2 .given .1) (omega arith) (e .result) (e .ensures ∙ sym (l .inv .2)) q) ∙ o .inv .2,
     )
 
 returns : tie.Need-returns Inv-bytes μ-bytes Inv-pieces μ-pieces
@@ -174,7 +174,7 @@ returns-4 c =
     let e = r .before .before .find in
     let star = r .before .before .before .if3 .taken in
     let this = here s (o .a) (l .i) (e .result) (r .read-piece .result) (l .inv .3 ∙ stop-at 42 s (l .i) h star) (found s (o .a) (l .i) h (l .inv .2) (l .inv .3) star) (e .ensures ∙ sym (l .inv .2)) (r .read-piece .ensures) in
-    sym (full (g .room) s (o .a) (o .n) _ _ (this ∙ c .before .before .p2 .given .1) (c .if4 .taken)) ∙ o .inv .2
+    sym (full (g .room) s (o .a) (o .n) _ _ (this ∙ c .before .before .p2 .given .1) (omega arith)) ∙ o .inv .2
 
 returns-5 : tie.Need-returns-5 Inv-bytes μ-bytes Inv-pieces μ-pieces
 returns-5 c =
@@ -187,7 +187,7 @@ returns-5 c =
     let e = r .before .before .find in
     let star = r .before .before .before .if3 .taken in
     let this = here s (o .a) (l .i) (e .result) (r .read-piece .result) (l .inv .3 ∙ stop-at 42 s (l .i) h star) (found s (o .a) (l .i) h (l .inv .2) (l .inv .3) star) (e .ensures ∙ sym (l .inv .2)) (r .read-piece .ensures) in
-    sym (last (g .room) s (o .a) (o .n) _ _ (this ∙ c .before .before .before .p2 .given .1) (c .before .if4 .left) (o .inv .0) (l .inv .2 ∙ sym (e .ensures) ∙ c .if5 .taken)) ∙ o .inv .2
+    sym (last (g .room) s (o .a) (o .n) _ _ (this ∙ c .before .before .before .p2 .given .1) (omega arith) (o .inv .0) (l .inv .2 ∙ sym (e .ensures) ∙ c .if5 .taken)) ∙ o .inv .2
 
 pub read-spec : {M : Type 1} → statement M
 read-spec =

@@ -1,0 +1,107 @@
+-- Every public call is pinned down: two outcomes that its contract allows, at the same arguments, are equal. Assumes nothing.
+use Prim.Native.Nat.{ℕ}
+use mathlib.Core.Path.{sym, _∙_}
+use mathlib.Core.Bool.{Bool}
+use denote.Ref.{now}
+use Rattle.promises.specs.Pins.{Pins}
+use Rattle.memory_layout.specs.Layout.{done as layout-done}
+use Rattle.protocol.specs.Interface.{done as protocol-done}
+use Rattle.memory_layout.specs.declared.number.Number.{Number}
+use Rattle.functional_descriptor.specs.declared.Descriptor.{Descriptor}
+use Rattle.get_status.specs.declared.State.{State}
+use Rattle.get_status.specs.declared.Status.{Status}
+use Rattle.get_status.specs.declared.Reply.{Reply}
+use Rattle.get_status.specs.declared.Met.{Met}
+use Rattle.memory_layout.specs.declared.MemoryLayout.{MemoryLayout}
+use Rattle.protocol.specs.declared.Interface.{Interface}
+use Rattle.protocol.specs.declared.UsbWriteControl.{UsbWriteControl}
+use Rattle.ground.proofs.starts_with.Kinds as starts-with-kinds
+use Rattle.ground.proofs.starts_with.Reads as starts-with-reads
+use Rattle.ground.proofs.least.Kinds as least-kinds
+use Rattle.ground.proofs.least.Reads as least-reads
+use Rattle.ground.proofs.pair_at.Kinds as pair-at-kinds
+use Rattle.ground.proofs.pair_at.Reads as pair-at-reads
+use Rattle.ground.proofs.triple_at.Kinds as triple-at-kinds
+use Rattle.ground.proofs.triple_at.Reads as triple-at-reads
+use Rattle.functional_descriptor.proofs.FunctionalDescriptor.from_bytes.Kinds as descriptor-kinds
+use Rattle.functional_descriptor.proofs.FunctionalDescriptor.from_bytes.Reads as descriptor-reads
+use Rattle.get_status.proofs.State.from_byte.Kinds as state-from-byte-kinds
+use Rattle.get_status.proofs.State.from_byte.Reads as state-from-byte-reads
+use Rattle.get_status.proofs.State.byte.Kinds as state-byte-kinds
+use Rattle.get_status.proofs.State.byte.Reads as state-byte-reads
+use Rattle.get_status.proofs.Status.from_byte.Kinds as status-from-byte-kinds
+use Rattle.get_status.proofs.Status.from_byte.Reads as status-from-byte-reads
+use Rattle.get_status.proofs.Status.byte.Kinds as status-byte-kinds
+use Rattle.get_status.proofs.Status.byte.Reads as status-byte-reads
+use Rattle.get_status.proofs.GetStatusMessage.from_bytes.Kinds as reply-kinds
+use Rattle.get_status.proofs.GetStatusMessage.from_bytes.Reads as reply-reads
+use Rattle.get_status.proofs.GetStatusMessage.judge.Kinds as judge-kinds
+use Rattle.get_status.proofs.GetStatusMessage.judge.Reads as judge-reads
+use Rattle.memory_layout.proofs.number.decimal.Kinds as decimal-kinds
+use Rattle.memory_layout.proofs.number.decimal.Reads as decimal-reads
+use Rattle.memory_layout.proofs.number.hex.Kinds as hex-kinds
+use Rattle.memory_layout.proofs.number.hex.Reads as hex-reads
+use Rattle.memory_layout.proofs.MemoryLayout.check.Kinds as check-kinds
+use Rattle.memory_layout.proofs.MemoryLayout.check.Reads as check-reads
+use Rattle.memory_layout.proofs.MemoryLayout.try_from.Kinds as layout-kinds
+use Rattle.memory_layout.proofs.MemoryLayout.try_from.Reads as layout-reads
+use Rattle.protocol.proofs.DfuProtocol.new.Kinds as protocol-kinds
+use Rattle.protocol.proofs.DfuProtocol.new.Reads as protocol-reads
+use Rattle.protocol.proofs.detach.Kinds as detach-kinds
+use Rattle.protocol.proofs.detach.Reads as detach-reads
+
+-- ground
+pub pinned-starts-with : Pins starts-with-kinds.ps starts-with-kinds.r {R = Bool} starts-with-reads.Post (λ κs r s. r)
+pinned-starts-with κs a x y s t p q = p ∙ sym q
+
+pub pinned-least : Pins least-kinds.ps least-kinds.r {R = ℕ} least-reads.Post (λ κs r s. r)
+pinned-least κs a x y s t p q = p ∙ sym q
+
+pub pinned-pair-at : Pins pair-at-kinds.ps pair-at-kinds.r {R = ℕ} pair-at-reads.Post (λ κs r s. r)
+pinned-pair-at κs a x y s t p q = p ∙ sym q
+
+pub pinned-triple-at : Pins triple-at-kinds.ps triple-at-kinds.r {R = ℕ} triple-at-reads.Post (λ κs r s. r)
+pinned-triple-at κs a x y s t p q = p ∙ sym q
+
+-- functional_descriptor
+pub pinned-descriptor : Pins descriptor-kinds.ps descriptor-kinds.r {R = Descriptor} descriptor-reads.Post (λ κs r s. r)
+pinned-descriptor κs a x y s t p q = p ∙ sym q
+
+-- get_status
+pub pinned-state-from-byte : Pins state-from-byte-kinds.ps state-from-byte-kinds.r {R = State} state-from-byte-reads.Post (λ κs r s. r)
+pinned-state-from-byte κs a x y s t p q = p ∙ sym q
+
+pub pinned-state-byte : Pins state-byte-kinds.ps state-byte-kinds.r {R = ℕ} state-byte-reads.Post (λ κs r s. r)
+pinned-state-byte κs a x y s t p q = p ∙ sym q
+
+pub pinned-status-from-byte : Pins status-from-byte-kinds.ps status-from-byte-kinds.r {R = Status} status-from-byte-reads.Post (λ κs r s. r)
+pinned-status-from-byte κs a x y s t p q = p ∙ sym q
+
+pub pinned-status-byte : Pins status-byte-kinds.ps status-byte-kinds.r {R = ℕ} status-byte-reads.Post (λ κs r s. r)
+pinned-status-byte κs a x y s t p q = p ∙ sym q
+
+pub pinned-reply : Pins reply-kinds.ps reply-kinds.r {R = Reply} reply-reads.Post (λ κs r s. r)
+pinned-reply κs a x y s t p q = p ∙ sym q
+
+pub pinned-judge : Pins judge-kinds.ps judge-kinds.r {R = Met} judge-reads.Post (λ κs r s. r)
+pinned-judge κs a x y s t p q = p ∙ sym q
+
+-- memory_layout
+pub pinned-decimal : Pins decimal-kinds.ps decimal-kinds.r {R = Number} decimal-reads.Post (λ κs r s. r)
+pinned-decimal κs a x y s t p q = p ∙ sym q
+
+pub pinned-hex : Pins hex-kinds.ps hex-kinds.r {R = Number} hex-reads.Post (λ κs r s. r)
+pinned-hex κs a x y s t p q = p ∙ sym q
+
+pub pinned-check : Pins check-kinds.ps check-kinds.r {R = MemoryLayout} check-reads.Post (λ κs r s. r)
+pinned-check κs a x y s t p q = p ∙ sym q
+
+pub pinned-layout : Pins layout-kinds.ps layout-kinds.r {R = MemoryLayout} layout-reads.Post (λ κs r s. layout-done r (now (s .1 .0)))
+pinned-layout κs a x y s t p q = p ∙ sym q
+
+-- protocol
+pub pinned-protocol : Pins protocol-kinds.ps protocol-kinds.r {R = Interface} protocol-reads.Post (λ κs r s. protocol-done r (now (s .1 .1 .0)))
+pinned-protocol κs a x y s t p q = p ∙ sym q
+
+pub pinned-detach : Pins detach-kinds.ps detach-kinds.r {R = UsbWriteControl} detach-reads.Post (λ κs r s. r)
+pinned-detach κs a x y s t p q = p ∙ sym q

@@ -1,0 +1,13 @@
+-- Document 01's starred cases hold, and so do the published strings: one table, one proof. Assumes nothing.
+use mathlib.Core.Path.{_≡_, refl}
+use mathlib.Core.List.{map}
+use Rattle.ground.specs.Text.{codes}
+use Rattle.ground.specs.Bytes.{prefix}
+use Rattle.memory_layout.specs.Number.{readOn, numberOf}
+use Rattle.memory_layout.specs.Layout.{upTo, endOf, split, scaled, starred, pieceOf, pieces, checked, sizes}
+use Rattle.protocol.specs.Interface.{rsplit, addressOf, dfuseOf, interfaceOf}
+use Rattle.promises.specs.Starred.{sum, cases, run, wanted}
+
+pub starred-cases : map run cases ≡ map wanted cases
+unfolding codes prefix readOn numberOf upTo endOf split scaled starred pieceOf pieces checked sizes rsplit addressOf dfuseOf interfaceOf sum
+starred-cases = refl

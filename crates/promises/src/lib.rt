@@ -1,0 +1,1 @@
+// Theorems alone: what the contracts below promise together.

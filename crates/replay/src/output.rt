@@ -1,0 +1,99 @@
+// The transcript: bytes are gathered in a buffer, which is written out when it is full and at the end. `at` is how
+// many bytes it holds; each function answers how many it holds then.
+use libc::STDOUT_FILENO;
+
+// A refusal: its number, and the values that it carries.
+pub enum Refusal {
+    Plain(u64),
+    One(u64, u64),
+    Two(u64, u64, u64),
+}
+
+// Writes out what the buffer holds.
+pub fn flush(out: &[u8], at: usize) {
+    if at <= out.len() {
+        io::write_all(STDOUT_FILENO, &out[0..at]);
+    }
+}
+
+// One byte; a full buffer is written out first.
+pub fn byte(out: &mut [u8], at: usize, b: u8) -> usize {
+    if at < out.len() {
+        out[at] = b;
+        return at + 1;
+    }
+    flush(out, at);
+    if 0 < out.len() {
+        out[0] = b;
+        return 1;
+    }
+    0
+}
+
+// The bytes of a text.
+pub fn text(out: &mut [u8], at: usize, s: &[u8]) -> usize {
+    let mut n = at;
+    let mut i = 0;
+    while i < s.len() {
+        n = byte(out, n, s[i]);
+        i += 1;
+    }
+    n
+}
+
+// A word that is a number: a space, and the decimal digits with no leading zeros.
+pub fn value(out: &mut [u8], at: usize, x: u64) -> usize {
+    let mut digits = [0u8; 20];
+    let n = io::decimal(x, &mut digits);
+    let at = byte(out, at, b' ');
+    text(out, at, &digits[..n])
+}
+
+// A word for each number.
+pub fn values(out: &mut [u8], at: usize, xs: &[u64]) -> usize {
+    let mut n = at;
+    let mut i = 0;
+    while i < xs.len() {
+        n = value(out, n, xs[i]);
+        i += 1;
+    }
+    n
+}
+
+fn wide(x: u32) -> u64 {
+    x as u64
+}
+
+// How many pages there are, and each of them.
+pub fn pages(out: &mut [u8], at: usize, store: &[u32], n: usize) -> usize {
+    let mut at = value(out, at, n as u64);
+    if store.len() < n {
+        return at;
+    }
+    let mut i = 0;
+    while i < n {
+        at = value(out, at, wide(store[i]));
+        i += 1;
+    }
+    at
+}
+
+// The words of a refusal.
+pub fn refused(out: &mut [u8], at: usize, r: Refusal) -> usize {
+    let at = text(out, at, b" refused");
+    match r {
+        Refusal::Plain(x) => value(out, at, x),
+        Refusal::One(x, a) => values(out, at, &[x, a]),
+        Refusal::Two(x, a, b) => values(out, at, &[x, a, b]),
+    }
+}
+
+// The newline after an answer.
+pub fn line_end(out: &mut [u8], at: usize) -> usize {
+    byte(out, at, b'\n')
+}
+
+// The answer to a line that the grammar doesn't read.
+pub fn bad_line(out: &mut [u8], at: usize) -> usize {
+    text(out, at, b"bad-line\n")
+}

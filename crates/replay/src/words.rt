@@ -1,0 +1,141 @@
+// The words of a line: numbers up to a limit, and HEX. A reader starts at a place of the line, and its answer says
+// where it stopped: what has to stand there is its caller's to ask.
+
+// A number.
+pub enum Amount {
+    Bad,
+    Read { value: u64, end: usize },
+}
+
+// The bytes of a HEX word, which are the first of a buffer.
+pub enum Bytes {
+    Bad,
+    Read { len: usize, end: usize },
+}
+
+// The value of a digit, decimal or lower-case hex, or 16 for any other byte.
+fn digit(b: u8) -> u8 {
+    match b {
+        b'0'..=b'9' => b - b'0',
+        b'a'..=b'f' => b - b'a' + 10,
+        _ => 16,
+    }
+}
+
+// The number that the decimal digits at a place are, up to the first byte that is none.
+pub fn digits(line: &[u8], at: usize, limit: u64) -> Amount {
+    let mut value: u64 = 0;
+    let mut i = at;
+    while i < line.len() {
+        let d = digit(line[i]) as u64;
+        if 9 < d {
+            break;
+        }
+        if (u64::MAX - d) / 10 < value {
+            return Amount::Bad;
+        }
+        value = value * 10 + d;
+        if limit < value {
+            return Amount::Bad;
+        }
+        i += 1;
+    }
+    if i == at {
+        return Amount::Bad;
+    }
+    Amount::Read { value, end: i }
+}
+
+// A number with a space after it: its end is where the next word starts.
+pub fn number(line: &[u8], at: usize, limit: u64) -> Amount {
+    let read = digits(line, at, limit);
+    match read {
+        Amount::Bad => Amount::Bad,
+        Amount::Read { value, end } => {
+            if line.len() <= end {
+                return Amount::Bad;
+            }
+            if line[end] != b' ' {
+                return Amount::Bad;
+            }
+            Amount::Read {
+                value,
+                end: end + 1,
+            }
+        }
+    }
+}
+
+// The byte that two hex digits are, or 256 if one of them is no digit.
+fn pair(a: u8, b: u8) -> u16 {
+    let high = digit(a);
+    if 15 < high {
+        return 256;
+    }
+    let low = digit(b);
+    if 15 < low {
+        return 256;
+    }
+    (high * 16 + low) as u16
+}
+
+// The bytes that the pairs of hex digits at a place are, up to the first two bytes that are no pair.
+fn pairs(line: &[u8], at: usize, bytes: &mut [u8]) -> Bytes {
+    if line.len() <= at {
+        return Bytes::Bad;
+    }
+    let mut n = 0;
+    let mut i = at;
+    while 2 <= line.len() - i {
+        let b = pair(line[i], line[i + 1]);
+        if 255 < b {
+            break;
+        }
+        if bytes.len() <= n {
+            return Bytes::Bad;
+        }
+        bytes[n] = b as u8;
+        n += 1;
+        i += 2;
+    }
+    if n == 0 {
+        return Bytes::Bad;
+    }
+    Bytes::Read { len: n, end: i }
+}
+
+// A HEX word: a hyphen for no bytes, or pairs.
+pub fn hex(line: &[u8], at: usize, bytes: &mut [u8]) -> Bytes {
+    if at < line.len() {
+        if line[at] == b'-' {
+            return Bytes::Read {
+                len: 0,
+                end: at + 1,
+            };
+        }
+    }
+    pairs(line, at, bytes)
+}
+
+// A HEX word that is the last of its line.
+pub fn last_hex(line: &[u8], at: usize, bytes: &mut [u8]) -> Bytes {
+    let read = hex(line, at, bytes);
+    match read {
+        Bytes::Bad => Bytes::Bad,
+        Bytes::Read { len, end } => {
+            if end == line.len() {
+                Bytes::Read { len, end }
+            } else {
+                Bytes::Bad
+            }
+        }
+    }
+}
+
+// The first bytes of a buffer, or all of them if there are fewer.
+pub fn first(bytes: &[u8], len: usize) -> &[u8] {
+    if len <= bytes.len() {
+        return &bytes[0..len];
+    }
+    bytes
+}
