@@ -1,7 +1,7 @@
 -- What bytes are as a functional descriptor: document 01, 'Descriptor and reply'.
 use Prim.Native.Nat.{ℕ, _/_, _%_}
 use mathlib.Core.List.{List, [], _∷_}
-use mathlib.Core.Bool.{Bool, true, false}
+use mathlib.Core.Bool.{Bool}
 use lib.ListN.{length, getD}
 use lib.Dec.{eqb, ltb}
 use Rattle.ground.specs.Pick.{pick}

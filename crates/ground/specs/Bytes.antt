@@ -1,5 +1,5 @@
 -- Numbers and fixed byte strings in a list of bytes.
-use Prim.Native.Nat.{ℕ, _+_, _*_, _<_}
+use Prim.Native.Nat.{ℕ, zero, suc, _+_, _*_, _/_, _%_, _<_}
 use mathlib.Core.List.{List, [], _∷_}
 use mathlib.Core.Bool.{Bool, true, false}
 use lib.Dec.{eqb}
@@ -10,6 +10,11 @@ use Rattle.ground.specs.Pick.{pick}
 unfoldable pub littleEndian : List ℕ → ℕ
 littleEndian [] = 0
 littleEndian (b ∷ bs) = littleEndian bs * 256 + b
+
+-- a number's bytes, so many, lowest byte first
+unfoldable pub bytesLow : ℕ → ℕ → List ℕ
+bytesLow zero n = []
+bytesLow (suc w) n = (n % 256) ∷ bytesLow w (n / 256)
 
 -- the number that the n bytes at a place are; of bytes past the end nothing is read
 unfoldable pub field : ℕ → ℕ → List ℕ → ℕ

@@ -1,5 +1,5 @@
 -- What a layout text reads as: document 01, 'The interface string'.
-use Prim.Native.Nat.{ℕ, suc, _+_, _-_, _*_, min}
+use Prim.Native.Nat.{ℕ, _+_, _-_, _*_, min}
 use mathlib.Core.List.{List, [], _∷_, _++_}
 use lib.ListN.{length, take, drop, getD, replicate}
 use lib.Dec.{eqb, ltb}
@@ -9,15 +9,7 @@ use Rattle.memory_layout.specs.Number.{numberOf}
 use Rattle.memory_layout.specs.declared.number.Number.{Number}
 use Rattle.memory_layout.specs.declared.number.Number.the-variants.{Value, Bad}
 use Rattle.memory_layout.specs.declared.Error.{Error}
-use Rattle.memory_layout.specs.declared.Error.the-variants.{
-  InvalidPageFormat,
-  ParseErrorPageCount,
-  ParseErrorPageSize,
-  InvalidPrefix,
-  TextTooLong,
-  PageTooLarge,
-  TooManyPages,
-}
+use Rattle.memory_layout.specs.declared.Error.the-variants.{InvalidPageFormat, ParseErrorPageCount, ParseErrorPageSize, InvalidPrefix, TextTooLong, PageTooLarge, TooManyPages}
 use Rattle.memory_layout.specs.declared.Piece.{Piece}
 use Rattle.memory_layout.specs.declared.Piece.the-variants.{Run, Fault}
 use Rattle.memory_layout.specs.declared.MemoryLayout.{MemoryLayout}

@@ -6,7 +6,11 @@ use denote.Ref.{now}
 use Rattle.promises.specs.Pins.{Pins}
 use Rattle.memory_layout.specs.Layout.{done as layout-done}
 use Rattle.protocol.specs.Interface.{done as protocol-done}
+use Rattle.session.specs.Download.{out}
 use Rattle.memory_layout.specs.declared.number.Number.{Number}
+use Rattle.session.specs.declared.start.DfuSansIo.{DfuSansIo}
+use Rattle.session.specs.declared.start.Started.{Started}
+use Rattle.session.specs.declared.wire.Control.{Control}
 use Rattle.functional_descriptor.specs.declared.Descriptor.{Descriptor}
 use Rattle.get_status.specs.declared.State.{State}
 use Rattle.get_status.specs.declared.Status.{Status}
@@ -15,6 +19,8 @@ use Rattle.get_status.specs.declared.Met.{Met}
 use Rattle.memory_layout.specs.declared.MemoryLayout.{MemoryLayout}
 use Rattle.protocol.specs.declared.Interface.{Interface}
 use Rattle.protocol.specs.declared.UsbWriteControl.{UsbWriteControl}
+use Rattle.session.specs.declared.Ask.{Ask}
+use Rattle.session.specs.declared.Step.{Step}
 use Rattle.ground.proofs.starts_with.Kinds as starts-with-kinds
 use Rattle.ground.proofs.starts_with.Reads as starts-with-reads
 use Rattle.ground.proofs.least.Kinds as least-kinds
@@ -49,6 +55,32 @@ use Rattle.protocol.proofs.DfuProtocol.new.Kinds as protocol-kinds
 use Rattle.protocol.proofs.DfuProtocol.new.Reads as protocol-reads
 use Rattle.protocol.proofs.detach.Kinds as detach-kinds
 use Rattle.protocol.proofs.detach.Reads as detach-reads
+use Rattle.session.proofs.download.cover.Kinds as cover-kinds
+use Rattle.session.proofs.download.cover.Reads as cover-reads
+use Rattle.session.proofs.start.DfuSansIo.new.Kinds as new-kinds
+use Rattle.session.proofs.start.DfuSansIo.new.Reads as new-reads
+use Rattle.session.proofs.start.DfuSansIo.set_address.Kinds as set-address-kinds
+use Rattle.session.proofs.start.DfuSansIo.set_address.Reads as set-address-reads
+use Rattle.session.proofs.start.DfuSansIo.begin.Kinds as begin-kinds
+use Rattle.session.proofs.start.DfuSansIo.begin.Reads as begin-reads
+use Rattle.session.proofs.start.DfuSansIo.download.Kinds as download-kinds
+use Rattle.session.proofs.start.DfuSansIo.download.Reads as download-reads
+use Rattle.session.proofs.start.DfuSansIo.detach.Kinds as io-detach-kinds
+use Rattle.session.proofs.start.DfuSansIo.detach.Reads as io-detach-reads
+use Rattle.session.proofs.Request.control.Kinds as control-kinds
+use Rattle.session.proofs.Request.control.Reads as control-reads
+use Rattle.session.proofs.Session.asks.Kinds as asks-kinds
+use Rattle.session.proofs.Session.asks.Reads as asks-reads
+use Rattle.session.proofs.Session.told_count.Kinds as told-count-kinds
+use Rattle.session.proofs.Session.told_count.Reads as told-count-reads
+use Rattle.session.proofs.Session.told_wait.Kinds as told-wait-kinds
+use Rattle.session.proofs.Session.told_wait.Reads as told-wait-reads
+use Rattle.session.proofs.Session.told_reset.Kinds as told-reset-kinds
+use Rattle.session.proofs.Session.told_reset.Reads as told-reset-reads
+use Rattle.session.proofs.Session.told_failure.Kinds as told-failure-kinds
+use Rattle.session.proofs.Session.told_failure.Reads as told-failure-reads
+use Rattle.session.proofs.Session.told_reply.Kinds as told-reply-kinds
+use Rattle.session.proofs.Session.told_reply.Reads as told-reply-reads
 
 -- ground
 pub pinned-starts-with : Pins starts-with-kinds.ps starts-with-kinds.r {R = Bool} starts-with-reads.Post (λ κs r s. r)
@@ -105,3 +137,43 @@ pinned-protocol κs a x y s t p q = p ∙ sym q
 
 pub pinned-detach : Pins detach-kinds.ps detach-kinds.r {R = UsbWriteControl} detach-reads.Post (λ κs r s. r)
 pinned-detach κs a x y s t p q = p ∙ sym q
+
+-- session
+pub pinned-cover : Pins cover-kinds.ps cover-kinds.r {R = ℕ} cover-reads.Post (λ κs r s. r)
+pinned-cover κs a x y s t p q = p ∙ sym q
+
+pub pinned-new : Pins new-kinds.ps new-kinds.r {R = DfuSansIo} new-reads.Post (λ κs r s. r)
+pinned-new κs a x y s t p q = p ∙ sym q
+
+pub pinned-set-address : Pins set-address-kinds.ps set-address-kinds.r {R = DfuSansIo} set-address-reads.Post (λ κs r s. r)
+pinned-set-address κs a x y s t p q = p ∙ sym q
+
+pub pinned-begin : Pins begin-kinds.ps begin-kinds.r {R = Started} begin-reads.Post (λ κs r s. r)
+pinned-begin κs a x y s t p q = p ∙ sym q
+
+pub pinned-download : Pins download-kinds.ps download-kinds.r {R = Started} download-reads.Post (λ κs r s. r)
+pinned-download κs a x y s t p q = p ∙ sym q
+
+pub pinned-io-detach : Pins io-detach-kinds.ps io-detach-kinds.r {R = UsbWriteControl} io-detach-reads.Post (λ κs r s. r)
+pinned-io-detach κs a x y s t p q = p ∙ sym q
+
+pub pinned-control : Pins control-kinds.ps control-kinds.r {R = Control} control-reads.Post (λ κs r s. r)
+pinned-control κs a x y s t p q = p ∙ sym q
+
+pub pinned-asks : Pins asks-kinds.ps asks-kinds.r {R = Ask} asks-reads.Post (λ κs r s. r)
+pinned-asks κs a x y s t p q = p ∙ sym q
+
+pub pinned-told-count : Pins told-count-kinds.ps told-count-kinds.r {R = Step} told-count-reads.Post (λ κs r s. r)
+pinned-told-count κs a x y s t p q = p ∙ sym q
+
+pub pinned-told-wait : Pins told-wait-kinds.ps told-wait-kinds.r {R = Step} told-wait-reads.Post (λ κs r s. r)
+pinned-told-wait κs a x y s t p q = p ∙ sym q
+
+pub pinned-told-reset : Pins told-reset-kinds.ps told-reset-kinds.r {R = Step} told-reset-reads.Post (λ κs r s. r)
+pinned-told-reset κs a x y s t p q = p ∙ sym q
+
+pub pinned-told-failure : Pins told-failure-kinds.ps told-failure-kinds.r {R = Step} told-failure-reads.Post (λ κs r s. r)
+pinned-told-failure κs a x y s t p q = p ∙ sym q
+
+pub pinned-told-reply : Pins told-reply-kinds.ps told-reply-kinds.r {R = Step} told-reply-reads.Post (λ κs r s. out r (now (s .1 .1 .1 .1 .0)))
+pinned-told-reply κs a x y s t p q = p ∙ sym q

@@ -1,6 +1,6 @@
 -- What a version and an interface string announce: document 01, 'The interface string'.
 use Prim.Native.Nat.{ℕ}
-use mathlib.Core.List.{List, [], _∷_, _++_}
+use mathlib.Core.List.{List, [], _∷_}
 use lib.ListN.{length, drop}
 use lib.Dec.{eqb, ltb}
 use Rattle.ground.specs.Pick.{pick}
@@ -16,13 +16,7 @@ use Rattle.memory_layout.specs.declared.MemoryLayout.the-variants.{Pages, Refus
 use Rattle.protocol.specs.declared.DfuProtocol.{DfuProtocol}
 use Rattle.protocol.specs.declared.DfuProtocol.the-variants.{Dfu, Dfuse}
 use Rattle.protocol.specs.declared.Error.{Error}
-use Rattle.protocol.specs.declared.Error.the-variants.{
-  UnknownProtocol,
-  TextTooLong,
-  InvalidInterfaceString,
-  MemoryLayout as LayoutError,
-  InvalidAddress,
-}
+use Rattle.protocol.specs.declared.Error.the-variants.{UnknownProtocol, TextTooLong, InvalidInterfaceString, MemoryLayout as LayoutError, InvalidAddress}
 use Rattle.protocol.specs.declared.Interface.{Interface}
 use Rattle.protocol.specs.declared.Interface.the-variants.{Read, Refused}
 use Rattle.protocol.specs.declared.Slash.{Slash}

@@ -1,0 +1,5 @@
+pub mod Covering
+pub mod Wishes
+pub mod Steps
+pub mod Lent
+pub mod Calls

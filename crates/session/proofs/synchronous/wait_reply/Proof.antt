@@ -1,0 +1,43 @@
+-- `wait_reply` meets its contract: a short reply, or what the look led to.
+use Rattle.session.specs.Machine.{onPoll}
+use borrow.Author.Needs.{needs}
+use Rattle.session.proofs.synchronous.wait_reply.Statement.{statement}
+use Rattle.session.proofs.synchronous.wait_reply.Tie as tie
+
+from-bytes-requires : tie.Need-from-bytes-requires
+from-bytes-requires c κs = search needs
+
+enum-known-reply : tie.Need-enum-known-reply
+enum-known-reply c = search needs
+
+refused-requires : tie.Need-refused-requires
+refused-requires c κs = search needs
+
+enum-known-reply-2 : tie.Need-enum-known-reply-2
+enum-known-reply-2 c = search needs
+
+judge-requires : tie.Need-judge-requires
+judge-requires c κs = search needs
+
+met-requires : tie.Need-met-requires
+met-requires c κs = search needs
+
+returns : tie.Need-returns
+returns c = rw (← (c .before .before .before .before .from-bytes .ensures), c .before .before .reply .given .1) (c .refused .ensures)
+
+returns-2 : tie.Need-returns-2
+unfolding onPoll
+returns-2 c = rw (← (c .before .before .before .before .before .from-bytes .ensures), c .before .before .before .reply2 .given .1, ← (c .before .judge .ensures)) (c .met .ensures)
+
+pub wait-reply-spec : {M : Type 1} → statement M
+wait-reply-spec =
+    tie.close
+    (tie.spec
+    from-bytes-requires
+    enum-known-reply
+    refused-requires
+    enum-known-reply-2
+    judge-requires
+    met-requires
+    returns
+    returns-2)

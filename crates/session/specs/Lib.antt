@@ -1,0 +1,4 @@
+pub mod Machine
+pub mod Download
+pub mod Wire
+pub mod Start
