@@ -1,2 +1,3 @@
 pub mod Pinned
 pub mod Starred
+pub mod Wire

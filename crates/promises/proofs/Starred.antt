@@ -2,12 +2,16 @@
 use mathlib.Core.Path.{_≡_, refl}
 use mathlib.Core.List.{map}
 use Rattle.ground.specs.Text.{codes}
-use Rattle.ground.specs.Bytes.{prefix}
+use Rattle.ground.specs.Bytes.{littleEndian, field, prefix}
 use Rattle.memory_layout.specs.Number.{readOn, numberOf}
 use Rattle.memory_layout.specs.Layout.{upTo, endOf, split, scaled, starred, pieceOf, pieces, checked, sizes}
 use Rattle.protocol.specs.Interface.{rsplit, addressOf, dfuseOf, interfaceOf}
+use Rattle.session.specs.Machine.{onFirst, onSecond, onPoll, told}
+use Rattle.session.specs.Download.{eraseNext, writeNext, nextOf, tookOf}
+use Rattle.session.specs.Start.{begunOf, beginOf}
+use Rattle.promises.specs.Run.{after}
 use Rattle.promises.specs.Starred.{sum, cases, run, wanted}
 
 pub starred-cases : map run cases ≡ map wanted cases
-unfolding codes prefix readOn numberOf upTo endOf split scaled starred pieceOf pieces checked sizes rsplit addressOf dfuseOf interfaceOf sum
+unfolding codes prefix readOn numberOf upTo endOf split scaled starred pieceOf pieces checked sizes rsplit addressOf dfuseOf interfaceOf sum onFirst onSecond onPoll told eraseNext writeNext nextOf tookOf begunOf beginOf after field littleEndian
 starred-cases = refl

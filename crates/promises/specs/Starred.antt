@@ -1,24 +1,42 @@
 -- Document 01's starred cases and published interface strings: a table, run on the definitions.
 use Prim.Native.Nat.{ℕ, _+_}
 use Prim.Native.String.{String}
-use mathlib.Core.List.{List, [], _∷_, map}
-use lib.ListN.{replicate}
+use mathlib.Core.List.{List, [], _∷_, reverse}
+use mathlib.Core.Bool.{Bool, true, false}
+use lib.ListN.{replicate, length as count}
 use Rattle.ground.specs.Said.{Said, says}
 use Rattle.ground.specs.Text.{codes}
 use Rattle.memory_layout.specs.Layout as layout
 use Rattle.protocol.specs.Interface as protocol
+use Rattle.protocol.specs.declared.DfuProtocol.{DfuProtocol}
+use Rattle.protocol.specs.declared.DfuProtocol.the-variants.{Dfu, Dfuse}
+use Rattle.session.specs.declared.Command.the-variants.{Erase, SetAddress, Block, Empty}
+use Rattle.session.specs.declared.Request.{Request}
+use Rattle.session.specs.declared.Request.the-variants.{GetStatus, Command as Sends}
+use Rattle.session.specs.declared.Session.{Session}
+use Rattle.session.specs.declared.Stage.the-variants.{Erasing, Ending}
+use Rattle.session.specs.declared.End.the-variants.{Stays}
+use Rattle.session.specs.declared.Error.the-variants.{BudgetSpent}
+use Rattle.session.specs.declared.Phase.the-variants.{Finished, Refused as Ended}
+use Rattle.session.specs.declared.start.DfuSansIo.{DfuSansIo}
+use Rattle.session.specs.declared.start.Started.{Started}
+use Rattle.session.specs.declared.start.Started.the-variants.{Session as Begun, Refused}
+use Rattle.session.specs.Machine.{Answer, reply, waited, wasReset, count as counts, mk, asksAt, saidAsk}
+use Rattle.session.specs.Download.{download}
+use Rattle.session.specs.Start.{newIo, beginOf, saidStart}
+use Rattle.promises.specs.Run.{opened, after}
 
 unfoldable pub sum : List ℕ → ℕ
 sum [] = 0
 sum (p ∷ ps) = p + sum ps
 
--- what a text is read as: document 01's number and values, and the bytes of all its pages
-pub record Outcome : Type 0 where
-  pub said : Said
-  pub total : ℕ
-
-abbrev pub reads : Said → ℕ → Outcome
-reads s n = record { said = s; total = n }
+-- what a case comes to: a text read as document 01's number and values, with the bytes of all its pages; a start that says no; a run's
+-- transfers, with what it says last; a run's transfers, with its last session
+pub data Outcome : Type 0 where
+  reads : Said → ℕ → Outcome
+  unbegun : Said → Outcome
+  runs : List Request → Said → Outcome
+  ends : List Request → Session → Outcome
 
 -- a layout text, for a store of 8,192 numbers
 abbrev pub layoutRun : List ℕ → Outcome
@@ -31,10 +49,94 @@ announced t = protocol.interfaceOf t (record { 0 = 1; 1 = 0x1a }) (replicate lay
 abbrev pub stringRun : List ℕ → Outcome
 stringRun t = reads (protocol.saidOf (announced t .answer)) (sum (announced t .store))
 
+-- a start's own arguments
+pub record Setting : Type 0 where
+  pub protocol : DfuProtocol
+  pub size : ℕ
+  pub tolerant : Bool
+  pub detach : Bool
+  pub length : ℕ
+  pub pages : List ℕ
+  pub budget : ℕ
+
+abbrev pub device : Setting → DfuSansIo
+device x =
+    newIo
+    (record {
+      «can_download» = true;
+      «can_upload» = true;
+      «manifestation_tolerant» = x .tolerant;
+      «will_detach» = x .detach;
+      «detach_timeout» = 0;
+      «transfer_size» = x .size;
+      «dfu_version» = record { 0 = 1; 1 = 0x10 };
+    })
+
+abbrev pub begins : Setting → Started
+begins x = beginOf (device x) (x .protocol) (x .length) (count (x .pages)) (x .budget)
+
+-- the run of a started session over told answers: its transfers in order, and what it says last, or its last session
+abbrev pub runOf : List ℕ → List Answer → Started → Outcome
+runOf ps more (Begun s) =
+    runs (reverse ((after (download ps) (opened s) more) .past)) (saidAsk (asksAt ((after (download ps) (opened s) more) .session .phase)))
+runOf ps more (Refused e) = unbegun (saidStart e)
+
+abbrev pub endOf : List ℕ → List Answer → Started → Outcome
+endOf ps more (Begun s) = ends (reverse ((after (download ps) (opened s) more) .past)) ((after (download ps) (opened s) more) .session)
+endOf ps more (Refused e) = unbegun (saidStart e)
+
+-- a reply with a state; a write that is taken whole, waited for and answered with a state
+abbrev pub state : ℕ → Answer
+state b = reply (0 ∷ 0 ∷ 0 ∷ 0 ∷ b ∷ 0 ∷ [])
+
+abbrev pub write : ℕ → ℕ → List Answer → List Answer
+write n b more = counts n ∷ waited ∷ state b ∷ more
+
+abbrev pub idle : List Answer → List Answer
+idle more = state 2 ∷ state 2 ∷ more
+
 -- a case: what is read, and what it is read as
 pub data Case : Type 0 where
   layoutText : String → Outcome → Case
   interfaceString : String → Outcome → Case
+  sessionRun : Setting → List Answer → Outcome → Case
+  sessionEnd : Setting → List Answer → Outcome → Case
+
+abbrev pub at : ℕ → ℕ → List ℕ → ℕ → Setting
+at a n ps b = record { protocol = Dfuse a; size = 2048; tolerant = false; detach = false; length = n; pages = ps; budget = b }
+
+abbrev pub plain : ℕ → ℕ → ℕ → Setting
+plain size n b = record { protocol = Dfu; size = size; tolerant = false; detach = false; length = n; pages = []; budget = b }
+
+abbrev pub tolerant : Setting
+tolerant = record { protocol = Dfu; size = 8; tolerant = true; detach = false; length = 4; pages = []; budget = 64 }
+
+-- document 01's whole case: the first case's 12 pages, a device that replies each awaited state at once
+abbrev pub whole : ℕ → Setting
+whole b =
+    at 0x08000000 4100
+    (16384 ∷ 16384 ∷ 16384 ∷ 16384 ∷ 65536 ∷ 131072 ∷ 131072 ∷ 131072 ∷ 131072 ∷ 131072 ∷ 131072 ∷ 131072 ∷ [])
+    b
+
+abbrev pub wholeAnswers : List Answer
+wholeAnswers = idle (write 5 5 (write 5 5 (write 2048 5 (write 2048 5 (write 4 5 (write 0 7 (wasReset ∷ [])))))))
+
+abbrev pub wholeTransfers : List Request → List Request
+wholeTransfers last =
+    GetStatus
+    ∷ GetStatus
+    ∷ Sends (Erase 0x08000000)
+    ∷ GetStatus
+    ∷ Sends (SetAddress 0x08000000)
+    ∷ GetStatus
+    ∷ Sends (Block 2 0 2048)
+    ∷ GetStatus
+    ∷ Sends (Block 3 2048 2048)
+    ∷ GetStatus
+    ∷ Sends (Block 4 4096 4)
+    ∷ GetStatus
+    ∷ Sends (Empty 5)
+    ∷ last
 
 abbrev pub cases : List Case
 cases =
@@ -52,12 +154,38 @@ cases =
     ∷ interfaceString "@SPI Flash : M25P64/0x00000000/128*064Kg" (reads (says 0 (0 ∷ 128 ∷ [])) 8388608)
     ∷ interfaceString "@NOR Flash : M29W128F/0x64000000/0256*64Kg" (reads (says 0 (0x64000000 ∷ 256 ∷ [])) 16777216)
     ∷ interfaceString "@Option Bytes  /0x1FFFF800/01*016Be" (reads (says 12 (6 ∷ 1 ∷ [])) 0)
+    ∷ sessionRun (at 0xFFFFF000 4095 (4096 ∷ []) 64) (idle []) (runs (GetStatus ∷ GetStatus ∷ []) (says 4 []))
+    ∷ sessionRun (at 0xFFFFF000 4096 (4096 ∷ []) 64) [] (unbegun (says 5 []))
+    ∷ sessionRun (at 0 2048 (1024 ∷ 1024 ∷ []) 64) (idle (write 5 5 (write 5 5 [])))
+    (runs (GetStatus ∷ GetStatus ∷ Sends (Erase 0) ∷ GetStatus ∷ Sends (Erase 1024) ∷ GetStatus ∷ Sends (SetAddress 0) ∷ []) (says 0 []))
+    ∷ sessionRun (at 0 2049 (1024 ∷ 1024 ∷ []) 64) (idle (write 5 5 (write 5 5 [])))
+    (runs (GetStatus ∷ GetStatus ∷ Sends (Erase 0) ∷ GetStatus ∷ Sends (Erase 1024) ∷ GetStatus ∷ []) (says 5 []))
+    ∷ sessionRun (plain 8 10 64) (idle (write 5 5 (write 5 5 [])))
+    (runs (GetStatus ∷ GetStatus ∷ Sends (Block 0 0 8) ∷ GetStatus ∷ Sends (Block 1 5 5) ∷ GetStatus ∷ Sends (Empty 2) ∷ []) (says 0 []))
+    ∷ sessionRun (whole 14) wholeAnswers (runs (wholeTransfers (GetStatus ∷ [])) (says 0 []))
+    ∷ sessionRun (whole 13) wholeAnswers (runs (wholeTransfers []) (says 23 []))
+    ∷ sessionEnd tolerant (idle (write 4 5 (write 0 2 [])))
+    (ends (GetStatus ∷ GetStatus ∷ Sends (Block 0 0 4) ∷ GetStatus ∷ Sends (Empty 1) ∷ GetStatus ∷ [])
+    (mk (record { dfuse = false; address = 0; length = 4; pages = 0; size = 8; tolerant = true; detach = false })
+    (record { stage = Ending; erased = 0; page = 0; number = 2; place = 4; copied = 4 })
+    58
+    (Finished Stays)))
+    ∷ sessionEnd (at 16 4 (8 ∷ []) 2) (idle [])
+    (ends (GetStatus ∷ GetStatus ∷ [])
+    (mk (record { dfuse = true; address = 16; length = 4; pages = 1; size = 2048; tolerant = false; detach = false })
+    (record { stage = Erasing; erased = 16; page = 0; number = 2; place = 0; copied = 16 })
+    0
+    (Ended BudgetSpent)))
     ∷ []
 
 abbrev pub run : Case → Outcome
 run (layoutText t o) = layoutRun (codes t)
 run (interfaceString t o) = stringRun (codes t)
+run (sessionRun x more o) = runOf (x .pages) more (begins x)
+run (sessionEnd x more o) = endOf (x .pages) more (begins x)
 
 abbrev pub wanted : Case → Outcome
 wanted (layoutText t o) = o
 wanted (interfaceString t o) = o
+wanted (sessionRun x more o) = o
+wanted (sessionEnd x more o) = o

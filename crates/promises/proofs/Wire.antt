@@ -1,0 +1,78 @@
+-- The wire is what the papers say, but for GETSTATUS's direction; and what start doesn't look at decides nothing. Assumes nothing.
+use Prim.Native.Nat.{ℕ, _/_, _%_}
+use mathlib.Core.Path.{_≡_, refl, ap, _∙_}
+use mathlib.Core.Bool.{Bool}
+use mathlib.Core.List.{List, [], _∷_}
+use native.Mathlib.Omega.{arith}
+use Rattle.ground.specs.Bytes.{bytesLow}
+use Rattle.ground.specs.declared.Version.{Version}
+use Rattle.functional_descriptor.specs.declared.FunctionalDescriptor.{FunctionalDescriptor}
+use Rattle.protocol.specs.declared.DfuProtocol.{DfuProtocol}
+use Rattle.session.specs.declared.Command.the-variants.{Erase, SetAddress, Block, Empty}
+use Rattle.session.specs.declared.Request.the-variants.{GetStatus, ClearStatus, Command as Sends}
+use Rattle.session.specs.declared.wire.Control.{Control}
+use Rattle.session.specs.declared.start.Override.{Override}
+use Rattle.session.specs.Wire.{wireOf}
+use Rattle.session.specs.Download.{filledFor, requestData}
+use Rattle.session.specs.Start.{beginOf}
+use Rattle.promises.specs.Dfu11.{SetupPacket, packet, DFU_DNLOAD, DFU_GETSTATUS, DFU_CLRSTATUS}
+use Rattle.promises.specs.Dfuse.{fourBytes, eraseCommand, setAddressCommand}
+
+-- our control transfers as setup packets: the bytes that are taken or carried
+abbrev pub carried : Control → SetupPacket
+carried c = packet (c .«request_type») (c .request) (c .value) (c .carries)
+
+abbrev pub taken : Control → SetupPacket
+taken c = packet (c .«request_type») (c .request) (c .value) (c .takes)
+
+pub clear-agrees : carried (wireOf ClearStatus) ≡ DFU_CLRSTATUS
+clear-agrees = refl
+
+pub block-agrees : (n f m : ℕ) → carried (wireOf (Sends (Block n f m))) ≡ DFU_DNLOAD n m
+block-agrees n f m = refl
+
+pub empty-agrees : (n : ℕ) → carried (wireOf (Sends (Empty n))) ≡ DFU_DNLOAD n 0
+empty-agrees n = refl
+
+pub erase-agrees : (a : ℕ) → carried (wireOf (Sends (Erase a))) ≡ DFU_DNLOAD 0 5
+erase-agrees a = refl
+
+pub address-agrees : (a : ℕ) → carried (wireOf (Sends (SetAddress a))) ≡ DFU_DNLOAD 0 5
+address-agrees a = refl
+
+-- where they part: GETSTATUS takes its bytes under the type that sends
+pub status-parts : taken (wireOf GetStatus) ≡ packet 0x21 3 0 6 × DFU_GETSTATUS ≡ packet 0xA1 3 0 6
+status-parts = (refl, refl)
+
+-- the command bytes that a call fills, handed back as the request's data, are the paper's command
+four : (a : ℕ) → bytesLow 4 a ≡ fourBytes a
+unfolding bytesLow
+four a =
+    let c : a / 256 / 256 ≡ a / 65536 = omega arith in
+    let d : a / 256 / 256 / 256 ≡ a / 16777216 = omega arith in
+    ap (λ (x : ℕ). a % 256 ∷ a / 256 % 256 ∷ x % 256 ∷ a / 256 / 256 / 256 % 256 ∷ []) c
+    ∙ ap (λ (x : ℕ). a % 256 ∷ a / 256 % 256 ∷ a / 65536 % 256 ∷ x % 256 ∷ []) d
+
+pub erase-command : (a : ℕ) (fw cmd : List ℕ) → requestData (Sends (Erase a)) fw (filledFor (Sends (Erase a)) cmd) ≡ eraseCommand a
+erase-command a fw cmd = rw (four a)
+
+pub address-command : (a : ℕ) (fw cmd : List ℕ) → requestData (Sends (SetAddress a)) fw (filledFor (Sends (SetAddress a)) cmd) ≡ setAddressCommand a
+address-command a fw cmd = rw (four a)
+
+-- no answer depends on the download and upload bits, the detach timeout or the version: start reads none of them
+abbrev seen : Bool → Bool → ℕ → Version → Bool → Bool → ℕ → FunctionalDescriptor
+seen d u t v tolerant detach size = record {
+  «can_download» = d;
+  «can_upload» = u;
+  «manifestation_tolerant» = tolerant;
+  «will_detach» = detach;
+  «detach_timeout» = t;
+  «transfer_size» = size;
+  «dfu_version» = v;
+}
+
+pub ignores : (d u d′ u′ : Bool) (t t′ : ℕ) (v v′ : Version) (tolerant detach : Bool) (size : ℕ) (o : Override) (p : DfuProtocol) (n pages budget : ℕ)
+    → beginOf (record { descriptor = seen d u t v tolerant detach size; «override_address» = o }) p n pages budget
+    ≡ beginOf (record { descriptor = seen d′ u′ t′ v′ tolerant detach size; «override_address» = o }) p n pages budget
+unfolding beginOf
+ignores d u d′ u′ t t′ v v′ tolerant detach size o p n pages budget = refl
