@@ -7,6 +7,8 @@ pub enum Kind {
     Layout,
     String,
     Detach,
+    Begin,
+    Session,
     // No kind of case, or a line that is too long.
     Bad,
 }
@@ -36,6 +38,12 @@ pub fn of(line: &[u8]) -> Kind {
     }
     if line.len() == 6 && ground::starts_with(line, b"detach") {
         return Kind::Detach;
+    }
+    if ground::starts_with(line, b"begin ") {
+        return Kind::Begin;
+    }
+    if ground::starts_with(line, b"session ") {
+        return Kind::Session;
     }
     Kind::Bad
 }

@@ -88,6 +88,33 @@ pub fn refused(out: &mut [u8], at: usize, r: Refusal) -> usize {
     }
 }
 
+// The digit of a value below 16.
+fn hex_digit(x: u8) -> u8 {
+    if x < 10 {
+        return b'0' + x;
+    }
+    if x < 16 {
+        return b'a' + (x - 10);
+    }
+    b'?'
+}
+
+// A word that is HEX: a space, and the pairs of the bytes, or a hyphen if there are none.
+pub fn hex(out: &mut [u8], at: usize, bytes: &[u8]) -> usize {
+    let mut n = byte(out, at, b' ');
+    if bytes.len() == 0 {
+        return byte(out, n, b'-');
+    }
+    let mut i = 0;
+    while i < bytes.len() {
+        let b = bytes[i];
+        n = byte(out, n, hex_digit(b / 16));
+        n = byte(out, n, hex_digit(b % 16));
+        i += 1;
+    }
+    n
+}
+
 // The newline after an answer.
 pub fn line_end(out: &mut [u8], at: usize) -> usize {
     byte(out, at, b'\n')

@@ -139,3 +139,42 @@ pub fn first(bytes: &[u8], len: usize) -> &[u8] {
     }
     bytes
 }
+
+// Where something ends that was looked for.
+pub enum Found {
+    Nothing,
+    At(usize),
+}
+
+// Where a text ends that has to stand at a place.
+pub fn past(line: &[u8], at: usize, text: &[u8]) -> Found {
+    if line.len() < at {
+        return Found::Nothing;
+    }
+    if line.len() - at < text.len() {
+        return Found::Nothing;
+    }
+    if ground::starts_with(&line[at..], text) {
+        return Found::At(at + text.len());
+    }
+    Found::Nothing
+}
+
+// Numbers with a space after each, up to a limit for each: where the next word starts.
+pub fn numbers(line: &[u8], at: usize, limits: &[u64], values: &mut [u64]) -> Found {
+    if values.len() < limits.len() {
+        return Found::Nothing;
+    }
+    let mut from = at;
+    let mut i = 0;
+    while i < limits.len() {
+        let read = number(line, from, limits[i]);
+        let Amount::Read { value, end } = read else {
+            return Found::Nothing;
+        };
+        values[i] = value;
+        from = end;
+        i += 1;
+    }
+    Found::At(from)
+}

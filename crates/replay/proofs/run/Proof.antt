@@ -6,12 +6,12 @@ use Rattle.replay.proofs.run.Statement.{statement}
 use Rattle.replay.proofs.run.Tie as tie
 
 abbrev Inv-loop : tie.InvT-loop
-Inv-loop input₀ line₀ bytes₀ pages₀ out₀ place₀ at₀ input line bytes pages out place at =
+Inv-loop input₀ line₀ bytes₀ store₀ firmware pages₀ out₀ place₀ at₀ input line bytes store pages out place at =
     (length input ≡ length input₀) × (length line ≡ length line₀) × (length bytes ≡ length bytes₀)
-    × (length pages ≡ length pages₀) × (length out ≡ length out₀)
+    × (length store ≡ length store₀) × (length pages ≡ length pages₀) × (length out ≡ length out₀)
 
 abbrev μ-loop : tie.MeasureT-loop
-μ-loop input₀ line₀ bytes₀ pages₀ out₀ place₀ at₀ input line bytes pages out place at = place .turns
+μ-loop input₀ line₀ bytes₀ store₀ firmware pages₀ out₀ place₀ at₀ input line bytes store pages out place at = place .turns
 
 start-requires : tie.Need-start-requires Inv-loop μ-loop
 start-requires c κs = search needs
@@ -49,6 +49,9 @@ same-length-4 c = search needs
 same-length-5 : tie.Need-same-length-5 Inv-loop μ-loop
 same-length-5 c = search needs
 
+same-length-6 : tie.Need-same-length-6 Inv-loop μ-loop
+same-length-6 c = search needs
+
 returns : tie.Need-returns Inv-loop μ-loop
 returns c = search needs
 
@@ -70,4 +73,5 @@ run-spec =
     same-length-3
     same-length-4
     same-length-5
+    same-length-6
     returns)

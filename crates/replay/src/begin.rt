@@ -1,0 +1,67 @@
+// `begin`: a start by its numbers alone.
+use crate::output;
+use crate::starting;
+use crate::starting::Target;
+use crate::starting::Targeted;
+use crate::transcript;
+use crate::words;
+use crate::words::Amount;
+use crate::words::Found;
+use session::start::Started;
+
+// `begin KIND ADDRESS OVERRIDE SIZE LENGTH BUDGET PAGECOUNT`
+pub fn begin(line: &[u8], out: &mut [u8], at: usize) -> usize {
+    let read = starting::target_at(line, 6);
+    match read {
+        Targeted::Bad => output::bad_line(out, at),
+        Targeted::Read { target, end } => with_target(line, end, target, out, at),
+    }
+}
+
+// `SIZE LENGTH BUDGET`
+fn with_target(line: &[u8], from: usize, target: Target, out: &mut [u8], at: usize) -> usize {
+    let mut values = [0u64; 3];
+    let read = words::numbers(line, from, &[65535, u64::MAX, u64::MAX], &mut values);
+    match read {
+        Found::Nothing => output::bad_line(out, at),
+        Found::At(end) => with_values(line, end, target, values, out, at),
+    }
+}
+
+// `PAGECOUNT`, the line's last word
+fn with_values(
+    line: &[u8],
+    from: usize,
+    target: Target,
+    values: [u64; 3],
+    out: &mut [u8],
+    at: usize,
+) -> usize {
+    let read = words::digits(line, from, 4294967295);
+    match read {
+        Amount::Bad => output::bad_line(out, at),
+        Amount::Read { value, end } => {
+            if end < line.len() {
+                return output::bad_line(out, at);
+            }
+            let io = starting::sans_io(target, starting::short(values[0]), false, false);
+            let protocol = starting::protocol_of(target);
+            let started = io.begin(protocol, values[1], value as usize, values[2]);
+            answer(started, out, at)
+        }
+    }
+}
+
+fn answer(started: Started, out: &mut [u8], at: usize) -> usize {
+    let at = output::text(out, at, b"begin");
+    match started {
+        Started::Refused(e) => {
+            let at = output::refused(out, at, starting::refusal_of(e));
+            output::line_end(out, at)
+        }
+        Started::Session(session) => {
+            let at = transcript::words(session.asks(), b"", 0, out, at);
+            output::line_end(out, at)
+        }
+    }
+}

@@ -1,0 +1,136 @@
+// What a session says, in words.
+use crate::firmware;
+use crate::output;
+use crate::output::Refusal;
+use session::Ask;
+use session::Command;
+use session::End;
+use session::Error;
+use session::Request;
+use session::Step;
+
+// The words of what is said: a write's data is given, and the firmware's length.
+pub fn words(says: Ask, data: &[u8], length: usize, out: &mut [u8], at: usize) -> usize {
+    match says {
+        Ask::Transfer(request) => transfer(request, data, length, out, at),
+        Ask::Wait(ms) => {
+            let at = output::text(out, at, b" wait");
+            output::value(out, at, ms as u64)
+        }
+        Ask::Reset => output::text(out, at, b" reset"),
+        Ask::Finished(end) => match end {
+            End::Stays => output::text(out, at, b" finished stays"),
+            End::Reset => output::text(out, at, b" finished reset"),
+        },
+        Ask::Refused(e) => output::refused(out, at, refusal_of(e)),
+    }
+}
+
+fn transfer(request: Request, data: &[u8], length: usize, out: &mut [u8], at: usize) -> usize {
+    let c = request.control();
+    let head = [c.request_type as u64, c.request as u64, c.value as u64];
+    if 0 < c.takes {
+        let at = output::text(out, at, b" read");
+        let at = output::values(out, at, &head);
+        return output::value(out, at, c.takes as u64);
+    }
+    let at = output::text(out, at, b" write");
+    let at = output::values(out, at, &head);
+    carried(request, data, length, out, at)
+}
+
+// What a write carries.
+fn carried(request: Request, data: &[u8], length: usize, out: &mut [u8], at: usize) -> usize {
+    match request {
+        Request::GetStatus => at,
+        Request::ClearStatus => at,
+        Request::Command(command) => match command {
+            Command::Erase(_) => command_bytes(data, out, at),
+            Command::SetAddress(_) => command_bytes(data, out, at),
+            Command::Block {
+                number: _,
+                place,
+                len,
+            } => part(place as u64, len as u64, out, at),
+            Command::Empty { number: _ } => part(length as u64, 0, out, at),
+        },
+    }
+}
+
+fn command_bytes(data: &[u8], out: &mut [u8], at: usize) -> usize {
+    let at = output::text(out, at, b" command");
+    output::hex(out, at, data)
+}
+
+fn part(place: u64, len: u64, out: &mut [u8], at: usize) -> usize {
+    let at = output::text(out, at, b" firmware");
+    output::values(out, at, &[place, len])
+}
+
+// The refusal that a session says.
+fn refusal_of(e: Error) -> Refusal {
+    match e {
+        Error::InvalidState { got, expected } => {
+            Refusal::Two(2, got.byte() as u64, expected.byte() as u64)
+        }
+        Error::MaximumTransferSizeExceeded => Refusal::Plain(3),
+        Error::EraseLimitReached => Refusal::Plain(4),
+        Error::NoSpaceLeft => Refusal::Plain(5),
+        Error::ResponseTooShort { got } => Refusal::Two(6, got as u64, 6),
+        Error::BudgetSpent => Refusal::Plain(23),
+        Error::NotAwaited => Refusal::Plain(24),
+        Error::NotAsAtStart => Refusal::Plain(25),
+        Error::Failed => Refusal::Plain(26),
+    }
+}
+
+// Whether the data is what is said to be written: as long, and of a block the bytes of the rule.
+fn is_right(says: Ask, data: &[u8]) -> bool {
+    let Ask::Transfer(request) = says else {
+        return data.len() == 0;
+    };
+    let c = request.control();
+    if data.len() != c.carries as usize {
+        return false;
+    }
+    let Request::Command(command) = request else {
+        return true;
+    };
+    let Command::Block {
+        number: _,
+        place,
+        len: _,
+    } = command
+    else {
+        return true;
+    };
+    firmware::follows(data, place as usize)
+}
+
+// The end of a session's line: the transfers spent, and the command bytes that were lent.
+pub fn line_end(spent: u64, command: &[u8], out: &mut [u8], at: usize) -> usize {
+    let at = output::text(out, at, b" |");
+    let at = output::value(out, at, spent);
+    output::hex(out, at, command)
+}
+
+// The line of a step whose call was lent a firmware and command bytes.
+pub fn line<'a>(
+    step: Step,
+    spent: u64,
+    firmware: &'a [u8],
+    command: &'a [u8],
+    out: &mut [u8],
+    at: usize,
+) -> usize {
+    let session = step.next;
+    let says = step.says;
+    let data = session.data(firmware, command);
+    let at = output::text(out, at, b"session");
+    let at = words(says, data, firmware.len(), out, at);
+    let at = line_end(spent, command, out, at);
+    if is_right(says, data) {
+        return output::line_end(out, at);
+    }
+    output::text(out, at, b" wrong-data\n")
+}
