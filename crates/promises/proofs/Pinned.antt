@@ -1,6 +1,13 @@
 -- Every public call is pinned down: two outcomes that its contract allows, at the same arguments, are equal. Assumes nothing.
 use Prim.Native.Nat.{ℕ}
-use mathlib.Core.Path.{sym, _∙_}
+use mathlib.Core.Path.{_≡_, sym, _∙_}
+use contract.Lifetimes.{Lfts}
+use borrow.Fn.Kinds.{Dens, endedOf}
+use borrow.Fn.World.{ResD}
+use denote.Triple.Clauses.{AtExit}
+use Rattle.session.proofs.Session.«data» as data-signature
+use Rattle.session.proofs.Session.«data».Kinds as data-kinds
+use Rattle.session.proofs.Session.«data».Reads as data-reads
 use mathlib.Core.Bool.{Bool}
 use denote.Ref.{now}
 use Rattle.promises.specs.Pins.{Pins}
@@ -177,3 +184,8 @@ pinned-told-failure κs a x y s t p q = p ∙ sym q
 
 pub pinned-told-reply : Pins told-reply-kinds.ps told-reply-kinds.r {R = Step} told-reply-reads.Post (λ κs r s. out r (now (s .1 .1 .1 .1 .0)))
 pinned-told-reply κs a x y s t p q = p ∙ sym q
+
+-- the data of a request: the bytes of the part that is handed back
+pub pinned-data : (κs : Lfts 1) (a : Dens {n = 1} κs data-kinds.ps) (x y : ResD data-signature.signature κs) (s t : AtExit (endedOf 1 data-kinds.ps data-kinds.r) κs)
+    → data-reads.Post κs a x s → data-reads.Post κs a y t → now x ≡ now y
+pinned-data κs a x y s t p q = p ∙ sym q
