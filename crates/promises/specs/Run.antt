@@ -1,5 +1,4 @@
 -- A run: a session and its past, told one answer after the other.
-use Prim.Native.Nat.{ℕ}
 use mathlib.Core.List.{List, [], _∷_, _++_}
 use Rattle.session.specs.Machine.{Answer, Work, asksAt, told}
 use Rattle.session.specs.declared.Session.{Session}

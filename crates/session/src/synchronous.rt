@@ -2,7 +2,6 @@
 ghost use mathlib.Core.Path.{_≡_};
 ghost use Prim.Native.Nat.{_≤_};
 ghost use lib.ListN.{length};
-ghost use Rattle.get_status.specs.declared.Met.{Met};
 ghost use Rattle.session.specs.Machine.{
   issue,
   refuse,
