@@ -84,11 +84,17 @@ fn refusal_of(e: Error) -> Refusal {
     }
 }
 
-// Whether the data is what is said to be written: as long, and of a block the bytes of the rule.
+// Whether the data is what is said to be written. A call that was refused leaves a session whose request may still be to be sent.
 fn is_right(says: Ask, data: &[u8]) -> bool {
-    let Ask::Transfer(request) = says else {
-        return data.len() == 0;
-    };
+    match says {
+        Ask::Transfer(request) => is_carried(request, data),
+        Ask::Refused(_) => true,
+        _ => data.len() == 0,
+    }
+}
+
+// As long as the request says, and of a block the bytes of the rule.
+fn is_carried(request: Request, data: &[u8]) -> bool {
     let c = request.control();
     if data.len() != c.carries as usize {
         return false;
