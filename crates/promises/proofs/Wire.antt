@@ -10,20 +10,13 @@ use Rattle.functional_descriptor.specs.declared.FunctionalDescriptor.{Functiona
 use Rattle.protocol.specs.declared.DfuProtocol.{DfuProtocol}
 use Rattle.session.specs.declared.Command.the-variants.{Erase, SetAddress, Block, Empty}
 use Rattle.session.specs.declared.Request.the-variants.{GetStatus, ClearStatus, Command as Sends}
-use Rattle.session.specs.declared.wire.Control.{Control}
 use Rattle.session.specs.declared.start.Override.{Override}
 use Rattle.session.specs.Wire.{wireOf}
 use Rattle.session.specs.Download.{filledFor, requestData}
 use Rattle.session.specs.Start.{beginOf}
-use Rattle.promises.specs.Dfu11.{SetupPacket, packet, DFU_DNLOAD, DFU_GETSTATUS, DFU_CLRSTATUS}
-use Rattle.promises.specs.Dfuse.{fourBytes, eraseCommand, setAddressCommand}
-
--- our control transfers as setup packets: the bytes that are taken or carried
-abbrev pub carried : Control → SetupPacket
-carried c = packet (c .«request_type») (c .request) (c .value) (c .carries)
-
-abbrev pub taken : Control → SetupPacket
-taken c = packet (c .«request_type») (c .request) (c .value) (c .takes)
+use Rattle.promises.specs.Sent.{carried, taken}
+use Rattle.plan.specs.Dfu11.{packet, DFU_DNLOAD, DFU_GETSTATUS, DFU_CLRSTATUS}
+use Rattle.plan.specs.Dfuse.{fourBytes, eraseCommand, setAddressCommand}
 
 pub clear-agrees : carried (wireOf ClearStatus) ≡ DFU_CLRSTATUS
 clear-agrees = refl

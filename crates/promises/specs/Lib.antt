@@ -1,5 +1,8 @@
 pub mod Pins
-pub mod Dfu11
-pub mod Dfuse
 pub mod Run
+pub mod Calls
+pub mod Sent
+pub mod Whole
+pub mod Fair
+pub mod Finish
 pub mod Starred

@@ -1,7 +1,7 @@
 -- Document 01's starred cases and published interface strings: a table, run on the definitions.
 use Prim.Native.Nat.{ℕ, _+_}
 use Prim.Native.String.{String}
-use mathlib.Core.List.{List, [], _∷_, reverse}
+use mathlib.Core.List.{List, [], _∷_}
 use mathlib.Core.Bool.{Bool, true, false}
 use lib.ListN.{replicate, length as count}
 use Rattle.ground.specs.Said.{Said, says}
@@ -24,11 +24,8 @@ use Rattle.session.specs.declared.start.Started.the-variants.{Session as Begun,
 use Rattle.session.specs.Machine.{Answer, reply, waited, wasReset, count as counts, mk, asksAt, saidAsk}
 use Rattle.session.specs.Download.{download}
 use Rattle.session.specs.Start.{newIo, beginOf, saidStart}
-use Rattle.promises.specs.Run.{opened, after}
-
-unfoldable pub sum : List ℕ → ℕ
-sum [] = 0
-sum (p ∷ ps) = p + sum ps
+use Rattle.plan.specs.Plan.{sum}
+use Rattle.promises.specs.Run.{opened, after, transfers}
 
 -- what a case comes to: a text read as document 01's number and values, with the bytes of all its pages; a start that says no; a run's
 -- transfers, with what it says last; a run's transfers, with its last session
@@ -78,11 +75,11 @@ begins x = beginOf (device x) (x .protocol) (x .length) (count (x .pages)) (x .b
 -- the run of a started session over told answers: its transfers in order, and what it says last, or its last session
 abbrev pub runOf : List ℕ → List Answer → Started → Outcome
 runOf ps more (Begun s) =
-    runs (reverse ((after (download ps) (opened s) more) .past)) (saidAsk (asksAt ((after (download ps) (opened s) more) .session .phase)))
+    runs (transfers ((after (download ps) (opened s) more) .past)) (saidAsk (asksAt ((after (download ps) (opened s) more) .session .phase)))
 runOf ps more (Refused e) = unbegun (saidStart e)
 
 abbrev pub endOf : List ℕ → List Answer → Started → Outcome
-endOf ps more (Begun s) = ends (reverse ((after (download ps) (opened s) more) .past)) ((after (download ps) (opened s) more) .session)
+endOf ps more (Begun s) = ends (transfers ((after (download ps) (opened s) more) .past)) ((after (download ps) (opened s) more) .session)
 endOf ps more (Refused e) = unbegun (saidStart e)
 
 -- a reply with a state; a write that is taken whole, waited for and answered with a state

@@ -1,0 +1,27 @@
+-- `blocks_of` meets its contract: a size of 0 has no blocks, any other is divided by.
+use mathlib.Core.Path.{ap, sym, _∙_}
+use Prim.Native.Nat.{ℕ}
+use borrow.Author.Needs.{needs}
+use Rattle.plan.specs.Plan.{blockCount}
+use Rattle.plan.proofs.Blocks.{blockCount-sizeless}
+use Rattle.plan.proofs.blocks_of.Statement.{statement}
+use Rattle.plan.proofs.blocks_of.Tie as tie
+
+returns : tie.Need-returns
+returns c = sym (ap (λ (s : ℕ). blockCount (c .before .args .len) s) (c .if1 .taken) ∙ blockCount-sizeless (c .before .args .len))
+
+sub-result : tie.Need-sub-result
+sub-result c = search needs
+
+add-result : tie.Need-add-result
+add-result c = search needs
+
+div-result : tie.Need-div-result
+div-result c = search needs
+
+returns-2 : tie.Need-returns-2
+unfolding blockCount
+returns-2 c = search needs
+
+pub blocks-of-spec : {M : Type 1} → statement M
+blocks-of-spec = tie.close (tie.spec returns sub-result add-result div-result returns-2)

@@ -1,0 +1,26 @@
+-- A budget that always suffices, from start's own arguments and the busy replies that a wait may meet.
+use Prim.Native.Nat.{ℕ, _+_, _*_, _^_}
+use mathlib.Core.List.{List}
+use lib.ListN.{length}
+use lib.Dec.{ltb}
+use Rattle.ground.specs.Pick.{pick}
+use Rattle.protocol.specs.declared.DfuProtocol.{DfuProtocol}
+use Rattle.session.specs.declared.start.DfuSansIo.{DfuSansIo}
+use Rattle.session.specs.Start.{dfuseb, overb}
+use Rattle.plan.specs.Plan.{commands}
+use Rattle.plan.specs.declared.Suffices.{Suffices}
+use Rattle.plan.specs.declared.Suffices.the-variants.{Budget, Never}
+
+-- three transfers for the opening with its CLRSTATUS, and k + 2 for each download request: it, and k + 1 looks
+abbrev pub enoughFor : ℕ → ℕ → ℕ
+enoughFor requests k = 3 + requests * (k + 2)
+
+-- a budget is a 64-bit count
+abbrev pub counted : ℕ → Suffices
+counted n = pick (ltb n (2 ^ 64)) (Budget n) Never
+
+-- none where start refuses the lengths: too long (1), too many pages (22)
+unfoldable pub enoughOf : DfuSansIo → DfuProtocol → ℕ → List ℕ → ℕ → Suffices
+enoughOf io p len pages k =
+    pick (ltb 4294967295 len) Never
+    (pick (overb (dfuseb p) (length pages)) Never (counted (enoughFor (commands (dfuseb p) len (io .descriptor .«transfer_size») pages) k)))

@@ -1,0 +1,4 @@
+pub mod Dfu11
+pub mod Dfuse
+pub mod Plan
+pub mod Enough

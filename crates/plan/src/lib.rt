@@ -1,0 +1,98 @@
+// What an update will ask of the device, before it is begun: how many transfers suffice.
+ghost use mathlib.Core.Path.{_≡_};
+ghost use mathlib.Core.Bool.{true};
+ghost use Prim.Native.Nat.{_<_, _≤_, _+_};
+ghost use lib.ListN.{length};
+ghost use Rattle.session.specs.Start.{dfuseb, overb};
+ghost use Rattle.memory_layout.specs.Layout.{maxPages};
+ghost use Rattle.plan.specs.Plan.{blockCount, commands};
+ghost use Rattle.plan.specs.Enough.{enoughFor, counted, enoughOf};
+use memory_layout::MAX_PAGES;
+use protocol::DfuProtocol;
+use session::download::cover;
+use session::start::DfuSansIo;
+
+// A budget, or none: start refuses the lengths (1, 22), or the number is no 64-bit count.
+pub enum Suffices {
+    Budget(u64),
+    Never,
+}
+
+// The blocks of at most `size` bytes that a firmware fills; none of size 0.
+fn blocks_of(len: u32, size: u16) -> u64
+    ensures { λ r. ⌜ r ≡ blockCount len size ⌝ }
+{
+    if size == 0 {
+        return 0;
+    }
+    ((len as u64) + ((size as u64) - 1)) / (size as u64)
+}
+
+// The download requests of an update: for DfuSe an erase for each covering page and the address before the blocks, and the empty block after them.
+fn requests(dfuse: bool, len: u32, size: u16, pages: &[u32]) -> u64
+    requires { ⌜ (dfuse ≡ true → length (now pages) ≤ maxPages) ⌝ }
+    ensures { λ r. ⌜ r ≡ commands dfuse len size (now (pages .entry)) ⌝ }
+{
+    let sent = blocks_of(len, size);
+    if dfuse {
+        return (cover(pages, len) as u64) + sent + 2;
+    }
+    sent + 1
+}
+
+// What suffices for so many requests and so many busy replies to each, if it is a 64-bit count.
+fn budget_for(requests: u64, busy: u64) -> Suffices
+    requires { ⌜ 0 < requests ⌝ }
+    ensures { λ r. ⌜ r ≡ counted (enoughFor requests busy) ⌝ }
+{
+    if 18446744073709551613 < busy {
+        return Suffices::Never;
+    }
+    let each = busy + 2;
+    if 18446744073709551612 / each < requests {
+        return Suffices::Never;
+    }
+    Suffices::Budget(3 + requests * each)
+}
+
+fn is_dfuse(protocol: DfuProtocol) -> bool
+    ensures { λ r. ⌜ r ≡ dfuseb protocol ⌝ }
+{
+    match protocol {
+        DfuProtocol::Dfu => false,
+        DfuProtocol::Dfuse { address: _ } => true,
+    }
+}
+
+// More pages than DfuSe may have; plain DFU doesn't count them.
+fn is_over(dfuse: bool, pages: usize) -> bool
+    ensures { λ r. ⌜ r ≡ overb dfuse pages ⌝ }
+{
+    if dfuse {
+        return MAX_PAGES < pages;
+    }
+    false
+}
+
+// A budget that always suffices where the device answers as it ought to and each wait meets at most `busy` busy replies.
+pub fn enough(
+    io: DfuSansIo,
+    protocol: DfuProtocol,
+    firmware: &[u8],
+    pages: &[u32],
+    busy: u64,
+) -> Suffices
+    ensures { λ r. ⌜ r ≡ enoughOf io protocol (length (now (firmware .entry))) (now (pages .entry)) busy ⌝ }
+{
+    let length = firmware.len() as u64;
+    if 4294967295 < length {
+        return Suffices::Never;
+    }
+    let dfuse = is_dfuse(protocol);
+    if is_over(dfuse, pages.len()) {
+        return Suffices::Never;
+    }
+    let descriptor = io.descriptor;
+    let sent = requests(dfuse, length as u32, descriptor.transfer_size, pages);
+    budget_for(sent, busy)
+}

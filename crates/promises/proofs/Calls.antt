@@ -1,0 +1,103 @@
+-- A run over the calls is the run of the definitions; what is lent in between changes nothing of the spend or of an end. Assumes nothing.
+use Prim.Native.Nat.{ℕ, zero, suc, _+_, _≤_}
+use native.Mathlib.Omega.{arith}
+use mathlib.Core.Path.{_≡_, refl, ap, sym, subst, _∙_}
+use mathlib.Core.Bool.{Bool, true, false, true≢false}
+use mathlib.Core.List.{List, [], _∷_, _++_}
+use lib.Dec.{eqb, ltb}
+use lib.ListN.{length}
+use borrow.Author.Tests.{eq-eqb, le-ltb}
+use Rattle.ground.specs.Pick.{pick}
+use Rattle.ground.proofs.Tests.{picked}
+use Rattle.session.specs.Machine.{Answer, Work, mk, asksAt, go, toldAt, told}
+use Rattle.session.specs.Download.{download, liveb, asAtStart, guardOf, through, called, filledBy, Outcome, out, filled, callOf}
+use Rattle.session.specs.declared.Error.the-variants.{NotAsAtStart}
+use Rattle.session.specs.declared.Guard.{Guard}
+use Rattle.session.specs.declared.Guard.the-variants.{Open, Shut}
+use Rattle.session.specs.declared.Phase.{Phase}
+use Rattle.session.specs.declared.Phase.the-variants.{First, Clear, Second, Sent, Waiting, Resetting, Finished, Refused}
+use Rattle.session.specs.declared.Setup.{Setup}
+use Rattle.session.specs.declared.Session.{Session}
+use Rattle.session.specs.declared.Ask.{Ask}
+use Rattle.session.specs.declared.Ask.the-variants.{Refused as SaysNo}
+use Rattle.session.specs.declared.Step.{Step}
+use Rattle.promises.specs.Run.{Event, sentBy, heardAt, World, tell, after, transfers}
+use Rattle.promises.specs.Calls.{Call, outcome, heardThrough, call, calls, Lends, AllLend, answers, Allowed, Repeats}
+use Rattle.promises.proofs.Spends.{tell-adds}
+
+-- an ended session asks for nothing and fills nothing
+ended-silent : (p : Phase) → liveb p ≡ false → sentBy (asksAt p) ≡ []
+ended-silent First e = absurd (true≢false e)
+ended-silent Clear e = absurd (true≢false e)
+ended-silent Second e = absurd (true≢false e)
+ended-silent (Sent c) e = absurd (true≢false e)
+ended-silent (Waiting x) e = absurd (true≢false e)
+ended-silent Resetting e = absurd (true≢false e)
+ended-silent (Finished x) e = refl
+ended-silent (Refused x) e = refl
+
+ended-fills : (p : Phase) (cmd : List ℕ) → liveb p ≡ false → filledBy (asksAt p) cmd ≡ cmd
+ended-fills First cmd e = absurd (true≢false e)
+ended-fills Clear cmd e = absurd (true≢false e)
+ended-fills Second cmd e = absurd (true≢false e)
+ended-fills (Sent c) cmd e = absurd (true≢false e)
+ended-fills (Waiting x) cmd e = absurd (true≢false e)
+ended-fills Resetting cmd e = absurd (true≢false e)
+ended-fills (Finished x) cmd e = refl
+ended-fills (Refused x) cmd e = refl
+
+-- what holds of the told answer, and of the world as it was, holds of a call
+pub call-picked : (P : World → Type 0) (x : World) (c : Call) → P (tell (download (c .pages)) x (c .answer)) → P x → P (call x c)
+unfolding callOf called guardOf
+call-picked P x c t v =
+    picked Q (liveb (x .session .phase)) _ _
+    (λ e. picked Q (asAtStart (x .session .setup) (length (c .firmware)) (length (c .pages)) (length (c .command))) _ _ (λ f. t) (λ f. v))
+    (λ e. subst (λ (h : List Event). P (record { session = x .session; past = h ++ x .past })) (sym (ended-silent (x .session .phase) e)) v)
+  where
+    Q : Guard → Type 0
+    Q g = P
+        (record {
+          session = (through g (x .session) (told (download (c .pages)) (x .session) (c .answer))) .next;
+          past = sentBy ((through g (x .session) (told (download (c .pages)) (x .session) (c .answer))) .says)
+              ++ (heardThrough g (x .session .phase) (c .answer) ++ x .past);
+        })
+
+-- THE SPEND: what is left, and the transfers since, make up what was there, whatever is lent and told
+call-adds : (n : ℕ) (x : World) (c : Call) → x .session .left + length (transfers (x .past)) ≡ n → (call x c) .session .left + length (transfers ((call x c) .past)) ≡ n
+call-adds n x c v = call-picked (λ (y : World). y .session .left + length (transfers (y .past)) ≡ n) x c (tell-adds (download (c .pages)) x (c .answer) n v) v
+
+pub spend : (x : World) (more : List Call) (n : ℕ) → x .session .left + length (transfers (x .past)) ≡ n
+    → (calls x more) .session .left + length (transfers ((calls x more) .past)) ≡ n
+unfolding calls
+spend x [] n v = v
+spend x (c ∷ more) n v = spend (call x c) more n (call-adds n x c v)
+
+-- ENDED IS ENDED: every further call gives the same answer, the same session and the lent command bytes as they were
+pub ended-answers : (s : Session) (c : Call) → liveb (s .phase) ≡ false → outcome s c ≡ out (record { next = s; says = asksAt (s .phase) }) (c .command)
+unfolding callOf called guardOf
+ended-answers s c e =
+    ap (λ (b : Bool). filled (through (pick b (pick (asAtStart (s .setup) (length (c .firmware)) (length (c .pages)) (length (c .command))) Open (Shut (SaysNo NotAsAtStart))) (Shut (asksAt (s .phase)))) s (told (download (c .pages)) s (c .answer))) (c .command)) e
+    ∙ ap (λ (x : List ℕ). out (record { next = s; says = asksAt (s .phase) }) x) (ended-fills (s .phase) (c .command) e)
+
+pub ended-stays : (s : Session) (more : List Call) (os : List Outcome) → liveb (s .phase) ≡ false → Allowed s more os
+    → Repeats s more os
+unfolding Allowed Repeats
+ended-stays s [] [] e v = tt
+ended-stays s [] (o ∷ os) e v = v
+ended-stays s (c ∷ more) [] e v = v
+ended-stays s (c ∷ more) (o ∷ os) e v =
+    let q : o ≡ out (record { next = s; says = asksAt (s .phase) }) (c .command) = v .0 ∙ ended-answers s c e in
+    (q, ended-stays s more os e (subst (λ (x : Session). Allowed x more os) (ap (λ (x : Outcome). x .step .next) q) (v .1)))
+
+-- PINNED: the same session and the same calls give the same answers, sessions and bytes
+pub pinned-run : (s : Session) (more : List Call) (os ps : List Outcome) → Allowed s more os → Allowed s more ps → os ≡ ps
+unfolding Allowed
+pinned-run s [] [] [] v u = refl
+pinned-run s [] [] (p ∷ ps) v u = absurd u
+pinned-run s [] (o ∷ os) ps v u = absurd v
+pinned-run s (c ∷ more) [] ps v u = absurd v
+pinned-run s (c ∷ more) (o ∷ os) [] v u = absurd u
+pinned-run s (c ∷ more) (o ∷ os) (p ∷ ps) v u =
+    let q : o ≡ p = v .0 ∙ sym (u .0) in
+    ap (λ (x : List Outcome). o ∷ x) (pinned-run (o .step .next) more os ps (v .1) (subst (λ (x : Outcome). Allowed (x .step .next) more ps) (sym q) (u .1)))
+    ∙ ap (λ (x : Outcome). x ∷ ps) q

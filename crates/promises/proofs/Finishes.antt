@@ -1,0 +1,154 @@
+-- A run that finishes has sent the plan, and every run a leading part of it. Assumes nothing.
+use Prim.Native.Nat.{ℕ, suc, _<_}
+use mathlib.Core.Path.{_≡_, refl, ap, sym, subst, _∙_}
+use mathlib.Core.List.{List, [], _∷_, _++_, append-assoc, append-nil, map, map-append}
+use lib.Dec.{eqb}
+use lib.ListN.{length}
+use Rattle.ground.specs.Pick.{pick}
+use Rattle.ground.proofs.Tests.{picked}
+use Rattle.get_status.specs.declared.State.{State}
+use Rattle.protocol.specs.declared.DfuProtocol.{DfuProtocol}
+use Rattle.session.specs.Machine.{Answer, Work, mk, waitAfter}
+use Rattle.session.specs.Download.{download, nextOf, tookOf}
+use Rattle.session.specs.Start.{setupOf, fresh}
+use Rattle.session.specs.declared.Command.{Command}
+use Rattle.session.specs.declared.Command.the-variants.{Erase, SetAddress, Block, Empty}
+use Rattle.session.specs.declared.Request.the-variants.{GetStatus, ClearStatus, Command as Commands}
+use Rattle.session.specs.declared.Phase.the-variants.{First}
+use Rattle.session.specs.declared.Setup.{Setup}
+use Rattle.session.specs.declared.Progress.{Progress}
+use Rattle.session.specs.declared.Session.{Session}
+use Rattle.session.specs.declared.Todo.{Todo}
+use Rattle.session.specs.declared.Todo.the-variants.{Send, End as Ends, Refuse}
+use Rattle.session.specs.declared.start.DfuSansIo.{DfuSansIo}
+use Rattle.plan.specs.Plan.{Dnload}
+use Rattle.promises.specs.Run.{Event, sends, hears, opened, after, commanded, Over, Fits, wholeOf, Full}
+use Rattle.promises.specs.Sent.{onWire, planOf, Begins}
+use Rattle.promises.proofs.Walk.{Claims, Holds, Wished, SentAt, WaitingAt, Good, run-always, run-over, either-end}
+use Rattle.promises.proofs.Wanted.{left, Heads, heads, full, wanted, fresh-wanted}
+use Rattle.promises.proofs.Onwire.{wanted-plan}
+use Rattle.promises.proofs.Started.{begun}
+
+-- what was commanded, and then what is still wanted, is all; what was commanded leads all
+abbrev So : List Command → List Event → List Command → Type 0
+So all h rest = commanded h ++ rest ≡ all
+
+abbrev Leads : List Command → List Event → Type 0
+Leads all h = (rest : List Command) × (So all h rest)
+
+abbrev planned : List ℕ → Setup → List Command → Claims
+planned ps su all = record {
+  atFirst = λ pr l h. So all h (left ps su pr);
+  atClear = λ pr l h. So all h (left ps su pr);
+  atSecond = λ pr l h. So all h (left ps su pr);
+  atWish = λ pr l h. So all h (left ps su pr);
+  pausing = λ b t pr l h. So all h (left ps su pr);
+  looking = λ b t pr l h. So all h (left ps su pr);
+  resetting = λ l h. So all h [];
+  finished = λ e l h. So all h [];
+  refused = λ e l h. Leads all h;
+  always = λ l h. Leads all h;
+}
+
+module _ (ps : List ℕ) (su : Setup) (all : List Command) where
+  wait-so : (c : Command) (pr : Progress) (l : ℕ) (h : List Event) → So all h (left ps su pr) → WaitingAt (download ps) su Full (planned ps su all) (waitAfter su c) pr l h
+  wait-so (Erase a) pr l h v = v
+  wait-so (SetAddress a) pr l h v = v
+  wait-so (Block n f m) pr l h v = v
+  wait-so (Empty n) pr l h v = v
+
+  wished : (pr : Progress) (l : ℕ) (h : List Event) (t : Todo) → Heads (download ps) (left ps su) su (left ps su pr) t → So all h (left ps su pr)
+      → Wished (download ps) su Full (planned ps su all) l h t
+  unfolding commanded
+  wished pr l h (Send c then) e v =
+      let on : So all (sends (Commands c) ∷ h) (left ps su (tookOf su then c (wholeOf c))) =
+      append-assoc (commanded h) (c ∷ []) (left ps su (tookOf su then c (wholeOf c))) ∙ ap (λ (x : List Command). commanded h ++ x) e ∙ v in
+      λ m z. (
+        (left ps su (tookOf su then c (wholeOf c)), on),
+        λ n u. wait-so c (tookOf su then c n) m (sends (Commands c) ∷ h)
+            (subst (λ (x : Progress). So all (sends (Commands c) ∷ h) (left ps su x)) (sym (full su then c n u)) on),
+      )
+  wished pr l h Ends e v =
+      let all-done : So all h [] = ap (λ (x : List Command). commanded h ++ x) e ∙ v in
+      either-end (download ps) su Full (planned ps su all) l h all-done all-done
+  wished pr l h (Refuse x) e v = (left ps su pr, v)
+
+  holds : 0 < su .size → Holds (download ps) su Full (planned ps su all)
+  unfolding commanded
+  holds k = record {
+    first = λ pr l h st v. picked (λ (X : Type 0). X) (eqb st 10) _ _ (λ e. v) (λ e. v);
+    clear = λ pr l h v. v;
+    second = λ pr l h v. v;
+    wish = λ pr l h v. wished pr l h (nextOf ps su pr) (heads ps su pr k) v;
+    look = λ b t pr l h v. v;
+    busy = λ b t pr l h v. v;
+    settle = λ b t pr l h v. v;
+    cutFirst = λ pr l h v. (left ps su pr, v);
+    cutClear = λ pr l h v. (left ps su pr, v);
+    cutSecond = λ pr l h v. (left ps su pr, v);
+    cutWish = λ pr l h v. (left ps su pr, v);
+    cutPausing = λ b t pr l h v. (left ps su pr, v);
+    cutLooking = λ b t pr l h v. (left ps su pr, v);
+    reset = λ l h v. v;
+    cutResetting = λ l h v. ([], v);
+    cutFinished = λ e l h v. ([], v);
+    cutRefused = λ e l h v. v;
+    deny = λ e l h d v. v;
+    hear = λ l h st v. v;
+  }
+
+-- a session at its first request, with all of it still to come
+fresh-good : (ps : List ℕ) (su : Setup) (l : ℕ) → 0 < su .size → Good (download ps) su Full (planned ps su (wanted su ps)) (opened (mk su (fresh su) l First))
+unfolding commanded
+fresh-good ps su l k = record { setup = refl; holds = fresh-wanted ps su k }
+
+-- the same of a session at its first request, by meaning
+module _ (ps : List ℕ) (su : Setup) (l : ℕ) (more : List Answer) (k : 0 < su .size)
+    (u : Fits Full (download ps) (mk su (fresh su) l First) more) where
+  ran-whole : Over ((after (download ps) (opened (mk su (fresh su) l First)) more) .session .phase)
+      → commanded ((after (download ps) (opened (mk su (fresh su) l First)) more) .past) ≡ wanted su ps
+  ran-whole o =
+      sym (append-nil _)
+      ∙ (run-over (download ps) su Full (planned ps su (wanted su ps)) (holds ps su (wanted su ps) k) (opened (mk su (fresh su) l First)) more u
+      (fresh-good ps su l k) o) .2
+
+  ran-part : Leads (wanted su ps) ((after (download ps) (opened (mk su (fresh su) l First)) more) .past)
+  ran-part =
+      run-always (download ps) su Full (planned ps su (wanted su ps)) (holds ps su (wanted su ps) k) (opened (mk su (fresh su) l First)) more u
+      (fresh-good ps su l k)
+
+module _ (io : DfuSansIo) (p : DfuProtocol) (fw ps : List ℕ) (budget : ℕ) (s : Session) (more : List Answer) where
+  abbrev su : Setup
+  su = setupOf io p (length fw) (length ps)
+
+  -- A FINISHED RUN HAS SENT THE PLAN: its download requests, on the wire, are the papers'
+  pub finished-sends-the-plan : 0 < length fw → 0 < io .descriptor .«transfer_size» → Begins io p fw ps budget s → Fits Full (download ps) s more
+      → Over ((after (download ps) (opened s) more) .session .phase)
+      → map (onWire fw) (commanded ((after (download ps) (opened s) more) .past)) ≡ planOf io p fw ps
+  finished-sends-the-plan h k b =
+      let (l, z, e) = begun io p fw ps budget s h k b in
+      subst
+      (λ (x : Session).
+      Fits Full (download ps) x more
+      → Over ((after (download ps) (opened x) more) .session .phase)
+      → map (onWire fw) (commanded ((after (download ps) (opened x) more) .past)) ≡ planOf io p fw ps)
+      (sym e)
+      (λ u o. ap (λ (x : List Command). map (onWire fw) x) (ran-whole ps su l more k u o) ∙ wanted-plan fw su ps refl k)
+
+  -- EVERY RUN HAS SENT A LEADING PART OF IT, refused ones too
+  pub every-run-leads-the-plan : 0 < length fw → 0 < io .descriptor .«transfer_size» → Begins io p fw ps budget s → Fits Full (download ps) s more
+      → (rest : List Dnload) × (map (onWire fw) (commanded ((after (download ps) (opened s) more) .past)) ++ rest ≡ planOf io p fw ps)
+  every-run-leads-the-plan h k b =
+      let (l, z, e) = begun io p fw ps budget s h k b in
+      subst
+      (λ (x : Session).
+      Fits Full (download ps) x more
+      → (rest : List Dnload) × (map (onWire fw) (commanded ((after (download ps) (opened x) more) .past)) ++ rest ≡ planOf io p fw ps))
+      (sym e)
+      (λ u.
+      let (rest, v) = ran-part ps su l more k u in (
+        map (onWire fw) rest,
+        sym (map-append (onWire fw) (commanded ((after (download ps) (opened (mk su (fresh su) l First)) more) .past)) rest)
+            ∙ ap (λ (x : List Command). map (onWire fw) x) v
+            ∙ wanted-plan fw su ps refl k,
+      ))

@@ -1,0 +1,378 @@
+-- Any work: with a fair device, room and budget nothing is refused, and each answer brings the end nearer. Assumes nothing.
+use Prim.Native.Nat.{ℕ, zero, suc, _+_, _-_, _*_, _<_, _≤_}
+use native.Mathlib.Omega.{arith}
+use mathlib.Core.Path.{_≡_, refl, ap, sym, subst, _∙_}
+use mathlib.Core.Logic.{_⊎_, inl, inr, ⊎-elim}
+use mathlib.Core.Bool.{Bool, true, false}
+use mathlib.Core.List.{List, [], _∷_, _++_}
+use lib.Dec.{eqb, ltb}
+use lib.ListN.{length, length-append}
+use borrow.Author.Tests.{le-ltb, eqb-false}
+use Rattle.ground.specs.Pick.{pick}
+use Rattle.ground.proofs.Tests.{picked}
+use Rattle.get_status.specs.Names.{stateByte}
+use Rattle.get_status.specs.Reply.{messageOf, replyOf, judged}
+use Rattle.get_status.specs.declared.State.{State}
+use Rattle.get_status.specs.declared.GetStatusMessage.{GetStatusMessage}
+use Rattle.get_status.specs.declared.Reply.{Reply}
+use Rattle.get_status.specs.declared.Reply.the-variants.{ResponseTooShort as ShortReply, Read}
+use Rattle.get_status.specs.declared.Met.{Met}
+use Rattle.get_status.specs.declared.Met.the-variants.{Reached, Busy, InvalidState as Wrong}
+use Rattle.session.specs.Machine.{Answer, count, reply, waited, wasReset, failed, Work, mk, refuse, issue, endPhase, proceed, waitAfter, firstReply, laterReply, reading, onFirst, onSecond, onMet, onPoll, asksAt, go, toldAt, told}
+use Rattle.session.specs.declared.Command.{Command}
+use Rattle.session.specs.declared.Command.the-variants.{Erase, SetAddress, Block, Empty}
+use Rattle.session.specs.declared.Request.{Request}
+use Rattle.session.specs.declared.Request.the-variants.{GetStatus, ClearStatus, Command as Commands}
+use Rattle.session.specs.declared.Wait.the-variants.{Pause, Poll}
+use Rattle.session.specs.declared.End.the-variants.{Stays, Reset}
+use Rattle.session.specs.declared.Phase.{Phase}
+use Rattle.session.specs.declared.Phase.the-variants.{First, Clear, Second, Sent, Waiting, Resetting, Finished, Refused}
+use Rattle.session.specs.declared.Progress.{Progress}
+use Rattle.session.specs.declared.Setup.{Setup}
+use Rattle.session.specs.declared.Session.{Session}
+use Rattle.session.specs.declared.Todo.{Todo}
+use Rattle.session.specs.declared.Todo.the-variants.{Send, End as Ends, Refuse}
+use Rattle.session.specs.declared.Ask.{Ask}
+use Rattle.session.specs.declared.Ask.the-variants.{Transfer, Wait as WaitFor, Reset as ResetBus, Finished as HasFinished, Refused as SaysNo}
+use Rattle.session.specs.declared.Step.{Step}
+use Rattle.promises.specs.Run.{Event, sends, sentBy, shownBy, shownFirst, shownLater, heardAt, World, tell, after, afterBy, transfers, cleared, Unrefused, Over, wholeOf, Full}
+use Rattle.promises.specs.Fair.{Fine, allowed, Fair, FairBy, Yes, AllYes, AllYesBy}
+use Rattle.promises.proofs.Wanted.{Heads}
+use Rattle.promises.proofs.Spends.{tell-adds, tell-setup}
+
+-- with room the work isn't refused, and keeps room
+abbrev pub Wants : Work → (Progress → Type 0) → Setup → Todo → Type 0
+Wants w room su (Send c then) = room (w .took su then c (wholeOf c))
+Wants w room su Ends = Unit
+Wants w room su (Refuse e) = ⊥
+
+-- what is asked of the work: its wishes are a list, a full count moves it as the whole one does, and with room it isn't refused
+pub record Thrives (w : Work) (su : Setup) (left : Progress → List Command) (room : Progress → Type 0) : Type 0 where
+  pub heads : (pr : Progress) → Heads w left su (left pr) (w .next su pr)
+  pub full : (pr : Progress) (c : Command) (n : ℕ) → Full c n → w .took su pr c n ≡ w .took su pr c (wholeOf c)
+  pub wants : (pr : Progress) → room pr → Wants w room su (w .next su pr)
+
+module _ (w : Work) (left : Progress → List Command) (room : Progress → Type 0) where
+  -- what a session still wants, and its room
+  abbrev pub restAt : Setup → Progress → Phase → List Command
+  restAt su pr First = left pr
+  restAt su pr Clear = left pr
+  restAt su pr Second = left pr
+  restAt su pr (Sent c) = left (w .took su pr c (wholeOf c))
+  restAt su pr (Waiting x) = left pr
+  restAt su pr Resetting = []
+  restAt su pr (Finished e) = []
+  restAt su pr (Refused e) = []
+
+  abbrev pub RoomAt : Setup → Progress → Phase → Type 0
+  RoomAt su pr First = room pr
+  RoomAt su pr Clear = room pr
+  RoomAt su pr Second = room pr
+  RoomAt su pr (Sent c) = room (w .took su pr c (wholeOf c))
+  RoomAt su pr (Waiting x) = room pr
+  RoomAt su pr Resetting = Unit
+  RoomAt su pr (Finished e) = Unit
+  RoomAt su pr (Refused e) = ⊥
+
+  abbrev pub Room : Session → Type 0
+  Room s = RoomAt (s .setup) (s .progress) (s .phase)
+
+  -- the transfers still to come at most, clears apart; the answers still to be told at most
+  abbrev ownNeed : ℕ → ℕ → Phase → ℕ
+  ownNeed k j First = 1
+  ownNeed k j Clear = 1
+  ownNeed k j Second = 0
+  ownNeed k j (Sent c) = k + 1
+  ownNeed k j (Waiting (Pause b t ms)) = j + 1
+  ownNeed k j (Waiting (Poll b t)) = j
+  ownNeed k j Resetting = 0
+  ownNeed k j (Finished e) = 0
+  ownNeed k j (Refused e) = 0
+
+  abbrev ownTells : ℕ → ℕ → Phase → ℕ
+  ownTells k j First = 4
+  ownTells k j Clear = 3
+  ownTells k j Second = 2
+  ownTells k j (Sent c) = 2 * k + 4
+  ownTells k j (Waiting (Pause b t ms)) = 2 * j + 3
+  ownTells k j (Waiting (Poll b t)) = 2 * j + 2
+  ownTells k j Resetting = 1
+  ownTells k j (Finished e) = 0
+  ownTells k j (Refused e) = 0
+
+  abbrev pub needAt : ℕ → ℕ → Setup → Progress → Phase → ℕ
+  needAt k j su pr p = ownNeed k j p + length (restAt su pr p) * (k + 2)
+
+  abbrev pub tellsAt : ℕ → ℕ → Setup → Progress → Phase → ℕ
+  tellsAt k j su pr p = ownTells k j p + length (restAt su pr p) * (2 * k + 3)
+
+  abbrev pub need : ℕ → ℕ → Session → ℕ
+  need k j s = needAt k j (s .setup) (s .progress) (s .phase)
+
+  abbrev pub tells : ℕ → ℕ → Session → ℕ
+  tells k j s = tellsAt k j (s .setup) (s .progress) (s .phase)
+
+  module _ (k : ℕ) where
+    -- a step that keeps room, and pays for itself in transfers (clears apart) and in answers
+    record Lives (j n t : ℕ) (x : Step) : Type 0 where
+      roomy : Room (x .next)
+      cost : length (transfers (sentBy (x .says))) + need k j (x .next) ≤ n + cleared (sentBy (x .says))
+      time : tells k j (x .next) ≤ t - 1
+      yes : Yes (x .says)
+
+    more-lives : {j n n′ t t′ : ℕ} {x : Step} → n ≤ n′ → t ≤ t′ → Lives j n t x → Lives j n′ t′ x
+    more-lives a b v = record { roomy = v .roomy; cost = omega (arith, v .cost); time = omega (arith, v .time); yes = v .yes }
+
+    -- a transfer, with something left to spend
+    ask-lives : (j n t : ℕ) (su : Setup) (pr then : Progress) (l : ℕ) (q : Request) (p : Phase) → 0 < l → RoomAt su then p → asksAt p ≡ Transfer q
+        → 1 + needAt k j su then p ≤ n + cleared (sends q ∷ []) → tellsAt k j su then p ≤ t - 1 → Lives j n t (go (issue su pr l then p))
+    unfolding transfers
+    ask-lives j n t su pr then zero q p h v a c d = absurd (omega arith)
+    ask-lives j n t su pr then (suc l) q p h v a c d = record { roomy = v; cost = rw a c; time = d; yes = rw a tt }
+
+    -- the work goes on
+    proceed-lives : (j : ℕ) (su : Setup) (pr : Progress) (l : ℕ) (t : Todo) → Heads w left su (left pr) t → Wants w room su t → length (left pr) * (k + 2) ≤ l
+        → Lives j (length (left pr) * (k + 2)) (2 + length (left pr) * (2 * k + 3)) (go (proceed su pr l t))
+    unfolding transfers cleared
+    proceed-lives j su pr l (Send c then) h v m =
+        let e : suc (length (left (w .took su then c (wholeOf c)))) ≡ length (left pr) = ap length h in
+        let e₁ : suc (length (left (w .took su then c (wholeOf c)))) * (k + 2) ≡ length (left pr) * (k + 2) = ap (λ (x : ℕ). x * (k + 2)) e in
+        let e₂ : suc (length (left (w .took su then c (wholeOf c)))) * (2 * k + 3) ≡ length (left pr) * (2 * k + 3) = ap (λ (x : ℕ). x * (2 * k + 3)) e in
+        ask-lives j _ _ su pr then l (Commands c) (Sent c) (omega arith) v refl (omega arith) (omega arith)
+    proceed-lives j su pr l Ends h v m =
+        picked P (su .tolerant) _ _
+        (λ x. record { roomy = tt; cost = omega arith; time = omega arith; yes = tt })
+        (λ x. picked P (su .detach) _ _
+        (λ y. record { roomy = tt; cost = omega arith; time = omega arith; yes = tt })
+        (λ y. record { roomy = tt; cost = omega arith; time = omega arith; yes = tt }))
+      where
+        P : Phase → Type 0
+        P p = Lives j (length (left pr) * (k + 2)) (2 + length (left pr) * (2 * k + 3)) (go (mk su pr l p))
+    proceed-lives j su pr l (Refuse e) h v m = absurd v
+
+    reading-lives : (j n t : ℕ) (su : Setup) (pr : Progress) (l : ℕ) (bs : List ℕ) (f : GetStatusMessage → Session) → 6 ≤ length bs → Lives j n t (go (f (messageOf bs)))
+        → Lives j n t (go (reading su pr l (replyOf bs) f))
+    reading-lives j n t su pr l bs f h v =
+        let e : ltb (length bs) 6 ≡ false = le-ltb _ _ h in
+        rw e v
+
+    module _ (j : ℕ) (su : Setup) (pr : Progress) (l : ℕ) (v : room pr) where
+      first-lives : (m : GetStatusMessage) → needAt k j su pr First ≤ l → Lives j (needAt k j su pr First) (tellsAt k j su pr First) (go (onFirst su pr l m))
+      unfolding onFirst cleared
+      first-lives m h =
+          picked (λ (p : Phase). Lives j (needAt k j su pr First) (tellsAt k j su pr First) (go (issue su pr l pr p))) (eqb (stateByte (m .state)) 10) _ _
+          (λ e. ask-lives j _ _ su pr pr l ClearStatus Clear (omega arith) v refl (omega arith) (omega arith))
+          (λ e. ask-lives j _ _ su pr pr l GetStatus Second (omega arith) v refl (omega arith) (omega arith))
+
+      second-lives : (m : GetStatusMessage) (t : Todo) → Heads w left su (left pr) t → Wants w room su t → needAt k j su pr Second ≤ l → stateByte (m .state) ≡ 2
+          → Lives j (needAt k j su pr Second) (tellsAt k j su pr Second) (go (onSecond su pr l t m))
+      unfolding onSecond
+      second-lives m t h n u e =
+          picked (λ (s : Session). Lives j (needAt k j su pr Second) (tellsAt k j su pr Second) (go s)) (eqb (stateByte (m .state)) 2) _ _
+          (λ f. more-lives (omega arith) (omega arith) (proceed-lives j su pr l t h n (omega arith)))
+          (λ f. absurd (eqb-false _ _ f e))
+
+      -- one look while waiting
+      poll-lives : (b g : State) (m : GetStatusMessage) (t : Todo) → Heads w left su (left pr) t → Wants w room su t → needAt k j su pr (Waiting (Poll b g)) ≤ l
+          → (stateByte (m .state) ≡ stateByte g) ⊎ ((stateByte (m .state) ≡ stateByte b) × (0 < j))
+          → Lives (j - 1) (needAt k j su pr (Waiting (Poll b g))) (tellsAt k j su pr (Waiting (Poll b g))) (go (onPoll su pr l b g t m))
+      unfolding onPoll transfers cleared
+      poll-lives b g m t h n u z =
+          picked P (eqb (stateByte (m .state)) (stateByte g)) _ _
+          (λ e. more-lives (omega arith) (omega arith) (proceed-lives (j - 1) su pr l t h n (omega arith)))
+          (λ e. picked P (eqb (stateByte (m .state)) (stateByte b)) _ _
+          (λ f. again (⊎-elim (λ y. absurd (eqb-false _ _ e y)) (λ y. y .1) z))
+          (λ f. absurd (⊎-elim (λ y. eqb-false _ _ e y) (λ y. eqb-false _ _ f (y .0)) z)))
+        where
+          P : Met → Type 0
+          P x = Lives (j - 1) (needAt k j su pr (Waiting (Poll b g))) (tellsAt k j su pr (Waiting (Poll b g))) (go (onMet su pr l b g t x))
+
+          again : 0 < j → P (Busy (m .«poll_timeout»))
+          again y = record { roomy = v; cost = omega arith; time = omega arith; yes = tt }
+
+    -- one fair answer
+    module _ (su : Setup) (law : Thrives w su left room) where
+      sent-lives : (pr : Progress) (l : ℕ) (c : Command) (n : ℕ) → Full c n → room (w .took su pr c (wholeOf c))
+          → Lives k (needAt k 0 su pr (Sent c)) (tellsAt k 0 su pr (Sent c)) (go (mk su (w .took su pr c n) l (Waiting (waitAfter su c))))
+      unfolding transfers cleared
+      sent-lives pr l c n u v = subst P (sym (law .full pr c n u)) (by c)
+        where
+          P : Progress → Type 0
+          P x = Lives k (needAt k 0 su pr (Sent c)) (tellsAt k 0 su pr (Sent c)) (go (mk su x l (Waiting (waitAfter su c))))
+
+          at-first : (b t : State) → Lives k (needAt k 0 su pr (Sent c)) (tellsAt k 0 su pr (Sent c)) (go (mk su (w .took su pr c (wholeOf c)) l (Waiting (Pause b t 0))))
+          at-first b t = record { roomy = v; cost = omega arith; time = omega arith; yes = tt }
+
+          by : (d : Command) → Lives k (needAt k 0 su pr (Sent c)) (tellsAt k 0 su pr (Sent c)) (go (mk su (w .took su pr c (wholeOf c)) l (Waiting (waitAfter su d))))
+          by (Erase a) = at-first _ _
+          by (SetAddress a) = at-first _ _
+          by (Block a b m) = at-first _ _
+          by (Empty a) = at-first _ _
+
+      livesAt : (j : ℕ) (pr : Progress) (l : ℕ) (p : Phase) (a : Answer) → RoomAt su pr p → Fine j p a → needAt k j su pr p ≤ l
+          → Lives (allowed k j p) (needAt k j su pr p) (tellsAt k j su pr p) (toldAt w su pr l p a)
+      unfolding transfers cleared
+      livesAt j pr l First (count n) v f m = absurd f
+      livesAt j pr l First (reply bs) v f m = reading-lives j _ _ su pr l bs _ (f .0) (first-lives j su pr l v (messageOf bs) m)
+      livesAt j pr l First waited v f m = absurd f
+      livesAt j pr l First wasReset v f m = absurd f
+      livesAt j pr l First failed v f m = absurd f
+      livesAt j pr l Clear (count n) v f m = ask-lives j _ _ su pr pr l GetStatus Second (omega arith) v refl (omega arith) (omega arith)
+      livesAt j pr l Clear (reply bs) v f m = absurd f
+      livesAt j pr l Clear waited v f m = absurd f
+      livesAt j pr l Clear wasReset v f m = absurd f
+      livesAt j pr l Clear failed v f m = absurd f
+      livesAt j pr l Second (count n) v f m = absurd f
+      livesAt j pr l Second (reply bs) v f m =
+          reading-lives j _ _ su pr l bs _ (f .0) (second-lives j su pr l v (messageOf bs) _ (law .heads pr) (law .wants pr v) m (f .1))
+      livesAt j pr l Second waited v f m = absurd f
+      livesAt j pr l Second wasReset v f m = absurd f
+      livesAt j pr l Second failed v f m = absurd f
+      livesAt j pr l (Sent c) (count n) v f m = sent-lives pr l c n f v
+      livesAt j pr l (Sent c) (reply bs) v f m = absurd f
+      livesAt j pr l (Sent c) waited v f m = absurd f
+      livesAt j pr l (Sent c) wasReset v f m = absurd f
+      livesAt j pr l (Sent c) failed v f m = absurd f
+      livesAt j pr l (Waiting (Pause b t ms)) (count n) v f m = absurd f
+      livesAt j pr l (Waiting (Pause b t ms)) (reply bs) v f m = absurd f
+      livesAt j pr l (Waiting (Pause b t ms)) waited v f m =
+          ask-lives j _ _ su pr pr l GetStatus (Waiting (Poll b t)) (omega arith) v refl (omega arith) (omega arith)
+      livesAt j pr l (Waiting (Pause b t ms)) wasReset v f m = absurd f
+      livesAt j pr l (Waiting (Pause b t ms)) failed v f m = absurd f
+      livesAt j pr l (Waiting (Poll b t)) (count n) v f m = absurd f
+      livesAt j pr l (Waiting (Poll b t)) (reply bs) v f m =
+          reading-lives (j - 1) _ _ su pr l bs _ (f .0) (poll-lives j su pr l v b t (messageOf bs) _ (law .heads pr) (law .wants pr v) m (f .1))
+      livesAt j pr l (Waiting (Poll b t)) waited v f m = absurd f
+      livesAt j pr l (Waiting (Poll b t)) wasReset v f m = absurd f
+      livesAt j pr l (Waiting (Poll b t)) failed v f m = absurd f
+      livesAt j pr l Resetting (count n) v f m = absurd f
+      livesAt j pr l Resetting (reply bs) v f m = absurd f
+      livesAt j pr l Resetting waited v f m = absurd f
+      livesAt j pr l Resetting wasReset v f m = record { roomy = tt; cost = omega arith; time = omega arith; yes = tt }
+      livesAt j pr l Resetting failed v f m = absurd f
+      livesAt j pr l (Finished e) a v f m = record { roomy = tt; cost = omega arith; time = omega arith; yes = tt }
+      livesAt j pr l (Refused e) a v f m = absurd v
+
+-- what a step adds to the past: at most one transfer, and no reply is one
+abbrev Silent : List Event → Type 0
+Silent e = (h : List Event) → (transfers (e ++ h) ≡ transfers h) × (cleared (e ++ h) ≡ cleared h)
+
+shown-silent : (r : Reply) → Silent (shownBy r)
+unfolding transfers cleared
+shown-silent (ShortReply got) h = (refl, refl)
+shown-silent (Read m) h = (refl, refl)
+
+first-silent : (a : Answer) → Silent (shownFirst a)
+first-silent (count n) h = (refl, refl)
+first-silent (reply bs) h = shown-silent (firstReply bs) h
+first-silent waited h = (refl, refl)
+first-silent wasReset h = (refl, refl)
+first-silent failed h = (refl, refl)
+
+later-silent : (a : Answer) → Silent (shownLater a)
+later-silent (count n) h = (refl, refl)
+later-silent (reply bs) h = shown-silent (laterReply bs) h
+later-silent waited h = (refl, refl)
+later-silent wasReset h = (refl, refl)
+later-silent failed h = (refl, refl)
+
+heard-silent : (p : Phase) (a : Answer) → Silent (heardAt p a)
+heard-silent First a h = first-silent a h
+heard-silent Clear a h = (refl, refl)
+heard-silent Second a h = later-silent a h
+heard-silent (Sent c) a h = (refl, refl)
+heard-silent (Waiting (Pause b t ms)) a h = (refl, refl)
+heard-silent (Waiting (Poll b t)) a h = later-silent a h
+heard-silent Resetting a h = (refl, refl)
+heard-silent (Finished e) a h = (refl, refl)
+heard-silent (Refused e) a h = (refl, refl)
+
+sent-transfers : (k : Ask) (h : List Event) → length (transfers (sentBy k ++ h)) ≡ length (transfers h) + length (transfers (sentBy k))
+unfolding transfers
+sent-transfers (Transfer q) h = length-append (transfers h) (q ∷ [])
+sent-transfers (WaitFor ms) h = omega arith
+sent-transfers ResetBus h = omega arith
+sent-transfers (HasFinished e) h = omega arith
+sent-transfers (SaysNo e) h = omega arith
+
+sent-cleared : (k : Ask) (h : List Event) → cleared (sentBy k ++ h) ≡ cleared h + cleared (sentBy k)
+unfolding cleared
+sent-cleared (Transfer GetStatus) h = omega arith
+sent-cleared (Transfer ClearStatus) h = omega arith
+sent-cleared (Transfer (Commands c)) h = omega arith
+sent-cleared (WaitFor ms) h = omega arith
+sent-cleared ResetBus h = omega arith
+sent-cleared (HasFinished e) h = omega arith
+sent-cleared (SaysNo e) h = omega arith
+
+tell-transfers : (w : Work) (x : World) (a : Answer)
+    → length (transfers ((tell w x a) .past)) ≡ length (transfers (x .past)) + length (transfers (sentBy ((told w (x .session) a) .says)))
+tell-transfers w x a =
+    sent-transfers ((told w (x .session) a) .says) (heardAt (x .session .phase) a ++ x .past)
+    ∙ ap (λ (q : List Request). length q + length (transfers (sentBy ((told w (x .session) a) .says)))) ((heard-silent (x .session .phase) a (x .past)) .0)
+
+tell-cleared : (w : Work) (x : World) (a : Answer) → cleared ((tell w x a) .past) ≡ cleared (x .past) + cleared (sentBy ((told w (x .session) a) .says))
+tell-cleared w x a =
+    sent-cleared ((told w (x .session) a) .says) (heardAt (x .session .phase) a ++ x .past)
+    ∙ ap (λ (n : ℕ). n + cleared (sentBy ((told w (x .session) a) .says))) ((heard-silent (x .session .phase) a (x .past)) .1)
+
+clears-grow : (w : Work) (x : World) (more : List Answer) → cleared (x .past) ≤ cleared ((after w x more) .past)
+unfolding afterBy
+clears-grow w x [] = omega arith
+clears-grow w x (a ∷ more) = omega (arith, tell-cleared w x a, clears-grow w (tell w x a) more)
+
+module _ (w : Work) (left : Progress → List Command) (room : Progress → Type 0) (k : ℕ) where
+  -- where a run of fair answers has come to
+  pub record Lived (n t : ℕ) (y : World) : Type 0 where
+    pub last : ℕ
+    pub roomy : Room w left room (y .session)
+    pub cost : length (transfers (y .past)) + need w left room k last (y .session) ≤ n + cleared (y .past)
+    pub time : tells w left room k last (y .session) ≤ t
+
+  -- A RUN OF FAIR ANSWERS
+  pub lived : (j : ℕ) (x : World) (more : List Answer) (n t budget : ℕ) → Thrives w (x .session .setup) left room → Room w left room (x .session)
+      → Fair k j w (x .session) more → length (transfers (x .past)) + need w left room k j (x .session) ≤ n + cleared (x .past)
+      → x .session .left + length (transfers (x .past)) ≡ budget → n + cleared ((after w x more) .past) ≤ budget
+      → tells w left room k j (x .session) ≤ t → Lived n (t - length more) (after w x more) × AllYes w (x .session) more
+  unfolding afterBy FairBy AllYesBy told
+  lived j x [] n t budget law v f c b m e = (record { last = j; roomy = v; cost = c; time = omega arith }, tt)
+  lived j x (a ∷ more) n t budget law v f c b m e =
+      let s : Session = x .session in
+      let y : World = tell w x a in
+      let i : ℕ = allowed k j (s .phase) in
+      let grow : cleared (x .past) ≤ cleared ((after w y more) .past) = omega (arith, tell-cleared w x a, clears-grow w y more) in
+      let step : Lives w left room k i (need w left room k j s) (tells w left room k j s) (told w s a) = told-lives s a (omega (arith, grow, m, c, b)) law v (f .0) in
+      let cost : length (transfers (y .past)) + need w left room k i (y .session) ≤ n + cleared (y .past) =
+      omega (arith, tell-transfers w x a, tell-cleared w x a, step .cost, c) in
+      let (z, others) =
+      lived i y more n (tells w left room k i (y .session)) budget (subst (λ (q : Setup). Thrives w q left room) (sym (tell-setup w x a)) law) (step .roomy) (f .1) cost
+      (tell-adds w x a budget b) m (omega arith) in
+      (record { last = z .last; roomy = z .roomy; cost = z .cost; time = omega (arith, z .time, step .time, e) }, (step .yes, others))
+    where
+      told-lives : (s : Session) (a : Answer) → need w left room k j s ≤ s .left → Thrives w (s .setup) left room → Room w left room s → Fine j (s .phase) a
+          → Lives w left room k (allowed k j (s .phase)) (need w left room k j s) (tells w left room k j s) (told w s a)
+      told-lives s a h law v f = livesAt w left room k (s .setup) law j (s .progress) (s .left) (s .phase) a v f h
+
+-- with room nothing is refused, and with nothing more to tell it is over
+pub room-unrefused : (w : Work) (left : Progress → List Command) (room : Progress → Type 0) (su : Setup) (pr : Progress) (p : Phase)
+    → RoomAt w left room su pr p → Unrefused p
+room-unrefused w left room su pr First v = tt
+room-unrefused w left room su pr Clear v = tt
+room-unrefused w left room su pr Second v = tt
+room-unrefused w left room su pr (Sent c) v = tt
+room-unrefused w left room su pr (Waiting x) v = tt
+room-unrefused w left room su pr Resetting v = tt
+room-unrefused w left room su pr (Finished e) v = tt
+room-unrefused w left room su pr (Refused e) v = v
+
+pub at-rest : (w : Work) (left : Progress → List Command) (room : Progress → Type 0) (k j : ℕ) (su : Setup) (pr : Progress) (p : Phase)
+    → RoomAt w left room su pr p → tellsAt w left room k j su pr p ≤ 0 → Over p
+at-rest w left room k j su pr First v m = absurd (omega arith)
+at-rest w left room k j su pr Clear v m = absurd (omega arith)
+at-rest w left room k j su pr Second v m = absurd (omega arith)
+at-rest w left room k j su pr (Sent c) v m = absurd (omega arith)
+at-rest w left room k j su pr (Waiting (Pause b t ms)) v m = absurd (omega arith)
+at-rest w left room k j su pr (Waiting (Poll b t)) v m = absurd (omega arith)
+at-rest w left room k j su pr Resetting v m = absurd (omega arith)
+at-rest w left room k j su pr (Finished e) v m = tt
+at-rest w left room k j su pr (Refused e) v m = v

@@ -1,0 +1,75 @@
+-- What start answers: a session at its first request, one that has finished at once, or none. Assumes nothing.
+use Prim.Native.Nat.{ℕ, zero, suc, _+_, _<_, _≤_}
+use native.Mathlib.Omega.{arith}
+use mathlib.Core.Path.{_≡_, refl}
+use mathlib.Core.Logic.{_⊎_, inl, inr}
+use mathlib.Core.Bool.{Bool, true, false}
+use mathlib.Core.List.{List}
+use lib.ListN.{length}
+use lib.Dec.{eqb, ltb}
+use borrow.Author.Tests.{eqb-true}
+use Rattle.ground.specs.Pick.{pick}
+use Rattle.ground.proofs.Tests.{picked}
+use Rattle.protocol.specs.declared.DfuProtocol.{DfuProtocol}
+use Rattle.session.specs.Machine.{mk}
+use Rattle.session.specs.Start.{dfuseb, setupOf, fresh, nothingb, beyondb, overb, starting, begunOf, beginOf}
+use Rattle.session.specs.declared.End.the-variants.{Stays}
+use Rattle.session.specs.declared.Phase.the-variants.{First, Finished}
+use Rattle.session.specs.declared.Setup.{Setup}
+use Rattle.session.specs.declared.Session.{Session}
+use Rattle.session.specs.declared.start.DfuSansIo.{DfuSansIo}
+use Rattle.session.specs.declared.start.StartError.{StartError}
+use Rattle.session.specs.declared.start.Started.{Started}
+use Rattle.session.specs.declared.start.Started.the-variants.{Session as Begun, Refused}
+use Rattle.promises.specs.Sent.{Begins}
+
+-- what holds of every refusal, of the finished start and of a begun one, holds of start
+pub start-picked : (P : Started → Type 0) (io : DfuSansIo) (p : DfuProtocol) (n pages budget : ℕ) → ((e : StartError) → P (Refused e))
+    → (nothingb (setupOf io p n pages) ≡ true → P (Begun (mk (setupOf io p n pages) (fresh (setupOf io p n pages)) budget (Finished Stays))))
+    → ((l : ℕ) → budget ≡ suc l → nothingb (setupOf io p n pages) ≡ false → P (Begun (mk (setupOf io p n pages) (fresh (setupOf io p n pages)) l First)))
+    → P (beginOf io p n pages budget)
+unfolding beginOf begunOf
+start-picked P io p n pages budget not done on =
+    picked P (ltb 4294967295 n) _ _ (λ e. not _)
+    (λ e. picked P (overb (dfuseb p) pages) _ _ (λ f. not _)
+    (λ f. picked P (nothingb (setupOf io p n pages)) _ _ done
+    (λ g. picked P (beyondb (setupOf io p n pages)) _ _ (λ h. not _) (λ h. last budget (λ l e. on l e g)))))
+  where
+    last : (b : ℕ) → ((l : ℕ) → b ≡ suc l → P (Begun (mk (setupOf io p n pages) (fresh (setupOf io p n pages)) l First))) → P (starting (setupOf io p n pages) b)
+    last zero f = not _
+    last (suc l) f = f l refl
+
+not-begun : {e : StartError} {s : Session} → Refused e ≡ Begun s → ⊥
+not-begun e = let z : _≡_ {A = ℕ} 0 1 = cc in omega arith
+
+begun-is : {r s : Session} → Begun r ≡ Begun s → s ≡ r
+begun-is e = cc
+
+something : (su : Setup) → 0 < su .length → 0 < su .size → nothingb su ≡ true → ⊥
+something su h k =
+    picked (λ (b : Bool). b ≡ true → ⊥) (eqb (su .length) 0) _ _ (λ e z. omega (arith, eqb-true (su .length) 0 e)) (λ e z. omega (arith, eqb-true (su .size) 0 z))
+
+-- A SESSION THAT WAS BEGUN, with firmware and transfer size above zero, is at its first request
+pub begun : (io : DfuSansIo) (p : DfuProtocol) (fw ps : List ℕ) (budget : ℕ) (s : Session) → 0 < length fw → 0 < io .descriptor .«transfer_size»
+    → Begins io p fw ps budget s
+    → (l : ℕ) × (budget ≡ suc l) × (s ≡ mk (setupOf io p (length fw) (length ps)) (fresh (setupOf io p (length fw) (length ps))) l First)
+begun io p fw ps budget s h k =
+    start-picked P io p (length fw) (length ps) budget (λ e z. absurd (not-begun z))
+    (λ e z. absurd (something (setupOf io p (length fw) (length ps)) h k e))
+    (λ l b e z. (l, b, begun-is z))
+  where
+    P : Started → Type 0
+    P x = x ≡ Begun s
+        → (l : ℕ) × (budget ≡ suc l) × (s ≡ mk (setupOf io p (length fw) (length ps)) (fresh (setupOf io p (length fw) (length ps))) l First)
+
+-- A STARTED SESSION, whatever the firmware: at its first request, or finished at once
+pub started : (io : DfuSansIo) (p : DfuProtocol) (fw ps : List ℕ) (budget : ℕ) (s : Session) → Begins io p fw ps budget s
+    → (l : ℕ) × ((s ≡ mk (setupOf io p (length fw) (length ps)) (fresh (setupOf io p (length fw) (length ps))) l First)
+    ⊎ (s ≡ mk (setupOf io p (length fw) (length ps)) (fresh (setupOf io p (length fw) (length ps))) l (Finished Stays)))
+started io p fw ps budget s =
+    start-picked P io p (length fw) (length ps) budget (λ e z. absurd (not-begun z)) (λ e z. (budget, inr (begun-is z))) (λ l b e z. (l, inl (begun-is z)))
+  where
+    P : Started → Type 0
+    P x = x ≡ Begun s
+        → (l : ℕ) × ((s ≡ mk (setupOf io p (length fw) (length ps)) (fresh (setupOf io p (length fw) (length ps))) l First)
+        ⊎ (s ≡ mk (setupOf io p (length fw) (length ps)) (fresh (setupOf io p (length fw) (length ps))) l (Finished Stays)))

@@ -1,0 +1,310 @@
+-- Any work: what every told answer keeps, said of the progress, the budget left and the past. One walk of the machine. Assumes nothing.
+use Prim.Native.Nat.{ℕ, zero, suc}
+use mathlib.Core.Path.{_≡_, refl, sym, subst}
+use mathlib.Core.Bool.{Bool, true, false}
+use mathlib.Core.List.{List, [], _∷_, _++_}
+use lib.Dec.{eqb}
+use borrow.Author.Tests.{eqb-true}
+use Rattle.ground.specs.Pick.{pick}
+use Rattle.ground.proofs.Tests.{picked}
+use Rattle.get_status.specs.Names.{stateByte}
+use Rattle.get_status.specs.Reply.{judged}
+use Rattle.get_status.specs.declared.State.{State}
+use Rattle.get_status.specs.declared.GetStatusMessage.{GetStatusMessage}
+use Rattle.get_status.specs.declared.Reply.{Reply}
+use Rattle.get_status.specs.declared.Reply.the-variants.{ResponseTooShort as ShortReply, Read}
+use Rattle.get_status.specs.declared.Met.{Met}
+use Rattle.get_status.specs.declared.Met.the-variants.{Reached, Busy, InvalidState as Wrong}
+use Rattle.session.specs.Machine.{Answer, count, reply, waited, wasReset, failed, Work, mk, refuse, issue, endPhase, proceed, waitAfter, firstReply, laterReply, reading, onFirst, onSecond, onMet, onPoll, asksAt, go, stay, awaitReply, awaitCount, awaitWait, awaitReset, toldAt, told}
+use Rattle.session.specs.declared.Command.{Command}
+use Rattle.session.specs.declared.Command.the-variants.{Erase, SetAddress, Block, Empty}
+use Rattle.session.specs.declared.Request.{Request}
+use Rattle.session.specs.declared.Request.the-variants.{GetStatus, ClearStatus, Command as Commands}
+use Rattle.session.specs.declared.Wait.{Wait}
+use Rattle.session.specs.declared.Wait.the-variants.{Pause, Poll}
+use Rattle.session.specs.declared.Error.{Error}
+use Rattle.session.specs.declared.Error.the-variants.{InvalidState, MaximumTransferSizeExceeded, EraseLimitReached, NoSpaceLeft, ResponseTooShort, BudgetSpent, NotAwaited, NotAsAtStart, Failed}
+use Rattle.session.specs.declared.End.{End}
+use Rattle.session.specs.declared.End.the-variants.{Stays, Reset}
+use Rattle.session.specs.declared.Phase.{Phase}
+use Rattle.session.specs.declared.Phase.the-variants.{First, Clear, Second, Sent, Waiting, Resetting, Finished, Refused}
+use Rattle.session.specs.declared.Setup.{Setup}
+use Rattle.session.specs.declared.Progress.{Progress}
+use Rattle.session.specs.declared.Session.{Session}
+use Rattle.session.specs.declared.Todo.{Todo}
+use Rattle.session.specs.declared.Todo.the-variants.{Send, End as Ends, Refuse}
+use Rattle.session.specs.declared.Ask.{Ask}
+use Rattle.session.specs.declared.Ask.the-variants.{Transfer}
+use Rattle.session.specs.declared.Step.{Step}
+use Rattle.promises.specs.Run.{Event, sends, hears, sentBy, shownBy, shownFirst, shownLater, heardAt, World, tell, after, afterBy, Over, FitsAt, Fits, FitsBy}
+
+-- what is claimed at each kind of phase: in the opening, where the work is asked next, in a wait before and after a look, at the end, after a refusal;
+-- and whatever happens
+pub record Claims : Type 1 where
+  pub atFirst : Progress → ℕ → List Event → Type 0
+  pub atClear : Progress → ℕ → List Event → Type 0
+  pub atSecond : Progress → ℕ → List Event → Type 0
+  pub atWish : Progress → ℕ → List Event → Type 0
+  pub pausing : State → State → Progress → ℕ → List Event → Type 0
+  pub looking : State → State → Progress → ℕ → List Event → Type 0
+  pub resetting : ℕ → List Event → Type 0
+  pub finished : End → ℕ → List Event → Type 0
+  pub refused : Error → ℕ → List Event → Type 0
+  pub always : ℕ → List Event → Type 0
+
+-- the refusals that end a session: not 24 and 25, which leave it as it was
+abbrev pub Ending : Error → Type 0
+Ending (InvalidState got expected) = Unit
+Ending MaximumTransferSizeExceeded = Unit
+Ending EraseLimitReached = Unit
+Ending NoSpaceLeft = Unit
+Ending (ResponseTooShort got) = Unit
+Ending BudgetSpent = Unit
+Ending NotAwaited = ⊥
+Ending NotAsAtStart = ⊥
+Ending Failed = Unit
+
+module _ (w : Work) (su : Setup) (F : Command → ℕ → Type 0) (c : Claims) where
+  abbrev pub WaitingAt : Wait → Progress → ℕ → List Event → Type 0
+  WaitingAt (Pause b t ms) pr l h = c .pausing b t pr l h
+  WaitingAt (Poll b t) pr l h = c .looking b t pr l h
+
+  -- a command is on: whatever fitting count is told, its wait begins
+  abbrev pub SentAt : Command → Progress → ℕ → List Event → Type 0
+  SentAt d pr l h = c .always l h × ((n : ℕ) → F d n → WaitingAt (waitAfter su d) (w .took su pr d n) l h)
+
+  abbrev pub EndAt : Phase → ℕ → List Event → Type 0
+  EndAt First l h = ⊥
+  EndAt Clear l h = ⊥
+  EndAt Second l h = ⊥
+  EndAt (Sent d) l h = ⊥
+  EndAt (Waiting x) l h = ⊥
+  EndAt Resetting l h = c .resetting l h
+  EndAt (Finished e) l h = c .finished e l h
+  EndAt (Refused e) l h = ⊥
+
+  -- what a wish leads to
+  abbrev pub Wished : ℕ → List Event → Todo → Type 0
+  Wished l h (Send d then) = (m : ℕ) → l ≡ suc m → SentAt d then m (sends (Commands d) ∷ h)
+  Wished l h Ends = EndAt (endPhase su) l h
+  Wished l h (Refuse e) = c .refused e l h
+
+  -- what is asked of the claims: each step of the machine leads from one to the next
+  pub record Holds : Type 0 where
+    pub first : (pr : Progress) (l : ℕ) (h : List Event) (st : ℕ) → c .atFirst pr (suc l) h
+        → pick (eqb st 10) (c .atClear pr l (sends ClearStatus ∷ hears st ∷ h)) (c .atSecond pr l (sends GetStatus ∷ hears st ∷ h))
+    pub clear : (pr : Progress) (l : ℕ) (h : List Event) → c .atClear pr (suc l) h → c .atSecond pr l (sends GetStatus ∷ h)
+    pub second : (pr : Progress) (l : ℕ) (h : List Event) → c .atSecond pr l h → c .atWish pr l (hears 2 ∷ h)
+    pub wish : (pr : Progress) (l : ℕ) (h : List Event) → c .atWish pr l h → Wished l h (w .next su pr)
+    pub look : (b t : State) (pr : Progress) (l : ℕ) (h : List Event) → c .pausing b t pr (suc l) h → c .looking b t pr l (sends GetStatus ∷ h)
+    pub busy : (b t : State) (pr : Progress) (l : ℕ) (h : List Event) → c .looking b t pr l h → c .pausing b t pr l (hears (stateByte b) ∷ h)
+    pub settle : (b t : State) (pr : Progress) (l : ℕ) (h : List Event) → c .looking b t pr l h → c .atWish pr l (hears (stateByte t) ∷ h)
+    pub cutFirst : (pr : Progress) (l : ℕ) (h : List Event) → c .atFirst pr l h → c .always l h
+    pub cutClear : (pr : Progress) (l : ℕ) (h : List Event) → c .atClear pr l h → c .always l h
+    pub cutSecond : (pr : Progress) (l : ℕ) (h : List Event) → c .atSecond pr l h → c .always l h
+    pub cutWish : (pr : Progress) (l : ℕ) (h : List Event) → c .atWish pr l h → c .always l h
+    pub cutPausing : (b t : State) (pr : Progress) (l : ℕ) (h : List Event) → c .pausing b t pr l h → c .always l h
+    pub cutLooking : (b t : State) (pr : Progress) (l : ℕ) (h : List Event) → c .looking b t pr l h → c .always l h
+    pub reset : (l : ℕ) (h : List Event) → c .resetting l h → c .finished Reset l h
+    pub cutResetting : (l : ℕ) (h : List Event) → c .resetting l h → c .always l h
+    pub cutFinished : (e : End) (l : ℕ) (h : List Event) → c .finished e l h → c .always l h
+    pub cutRefused : (e : Error) (l : ℕ) (h : List Event) → c .refused e l h → c .always l h
+    pub deny : (e : Error) (l : ℕ) (h : List Event) → Ending e → c .always l h → c .refused e l h
+    pub hear : (l : ℕ) (h : List Event) (st : ℕ) → c .always l h → c .always l (hears st ∷ h)
+
+  abbrev pub ClaimAt : Phase → Progress → ℕ → List Event → Type 0
+  ClaimAt First pr l h = c .atFirst pr l h
+  ClaimAt Clear pr l h = c .atClear pr l h
+  ClaimAt Second pr l h = c .atSecond pr l h
+  ClaimAt (Sent d) pr l h = SentAt d pr l h
+  ClaimAt (Waiting x) pr l h = WaitingAt x pr l h
+  ClaimAt Resetting pr l h = c .resetting l h
+  ClaimAt (Finished e) pr l h = c .finished e l h
+  ClaimAt (Refused e) pr l h = c .refused e l h
+
+  -- a step after which the setup is as it was and the claim of the new phase holds
+  pub record Kept (h : List Event) (x : Step) : Type 0 where
+    pub setup : x .next .setup ≡ su
+    pub holds : ClaimAt (x .next .phase) (x .next .progress) (x .next .left) (sentBy (x .says) ++ h)
+
+  module _ (g : Holds) where
+    cut : (p : Phase) (pr : Progress) (l : ℕ) (h : List Event) → ClaimAt p pr l h → c .always l h
+    cut First pr l h v = g .cutFirst pr l h v
+    cut Clear pr l h v = g .cutClear pr l h v
+    cut Second pr l h v = g .cutSecond pr l h v
+    cut (Sent d) pr l h v = v .0
+    cut (Waiting (Pause b t ms)) pr l h v = g .cutPausing b t pr l h v
+    cut (Waiting (Poll b t)) pr l h v = g .cutLooking b t pr l h v
+    cut Resetting pr l h v = g .cutResetting l h v
+    cut (Finished e) pr l h v = g .cutFinished e l h v
+    cut (Refused e) pr l h v = g .cutRefused e l h v
+
+    -- the leaves: a refusal, an answer that isn't awaited, a transfer
+    refuse-kept : (pr : Progress) (l : ℕ) (h : List Event) (e : Error) → Ending e → c .always l h → Kept h (go (refuse su pr l e))
+    refuse-kept pr l h e d v = record { setup = refl; holds = g .deny e l h d v }
+
+    stay-kept : (p : Phase) (pr : Progress) (l : ℕ) (h : List Event) (e : Error) → ClaimAt p pr l h → Kept h (stay (mk su pr l p) e)
+    stay-kept p pr l h e v = record { setup = refl; holds = v }
+
+    issue-kept : (pr then : Progress) (l : ℕ) (h : List Event) (q : Request) (p : Phase) → asksAt p ≡ Transfer q → c .always l h
+        → ((m : ℕ) → l ≡ suc m → ClaimAt p then m (sends q ∷ h)) → Kept h (go (issue su pr l then p))
+    issue-kept pr then zero h q p a v f = refuse-kept pr zero h _ tt v
+    issue-kept pr then (suc l) h q p a v f =
+        record { setup = refl; holds = subst (λ (x : Ask). ClaimAt p then l (sentBy x ++ h)) (sym a) (f l refl) }
+
+    proceed-kept : (pr : Progress) (l : ℕ) (h : List Event) (t : Todo) → Wished l h t → c .always l h → Kept h (go (proceed su pr l t))
+    proceed-kept pr l h (Send d then) v s = issue-kept pr then l h _ (Sent d) refl s v
+    proceed-kept pr l h Ends v s = by (su .tolerant) (su .detach) v
+      where
+        by : (t d : Bool) → EndAt (pick t (Finished Stays) (pick d (Finished Stays) Resetting)) l h
+            → Kept h (go (mk su pr l (pick t (Finished Stays) (pick d (Finished Stays) Resetting))))
+        by true d v = record { setup = refl; holds = v }
+        by false true v = record { setup = refl; holds = v }
+        by false false v = record { setup = refl; holds = v }
+    proceed-kept pr l h (Refuse e) v s = record { setup = refl; holds = v }
+
+    wish-kept : (pr : Progress) (l : ℕ) (h : List Event) → c .atWish pr l h → Kept h (go (proceed su pr l (w .next su pr)))
+    wish-kept pr l h v = proceed-kept pr l h (w .next su pr) (g .wish pr l h v) (g .cutWish pr l h v)
+
+    -- a reply that is read, and one that can't be
+    reading-kept : (pr : Progress) (l : ℕ) (h : List Event) (r : Reply) (f : GetStatusMessage → Session) → c .always l h
+        → ((m : GetStatusMessage) → Kept (hears (stateByte (m .state)) ∷ h) (go (f m))) → Kept (shownBy r ++ h) (go (reading su pr l r f))
+    reading-kept pr l h (ShortReply got) f v k = refuse-kept pr l h _ tt v
+    reading-kept pr l h (Read m) f v k = k m
+
+    first-kept : (pr : Progress) (l : ℕ) (h : List Event) (m : GetStatusMessage) → c .atFirst pr l h
+        → Kept (hears (stateByte (m .state)) ∷ h) (go (onFirst su pr l m))
+    unfolding onFirst
+    first-kept pr zero h m v = refuse-kept pr zero _ _ tt (g .hear zero h _ (g .cutFirst pr zero h v))
+    first-kept pr (suc l) h m v = by (eqb (stateByte (m .state)) 10) (g .first pr l h (stateByte (m .state)) v)
+      where
+        by : (b : Bool)
+            → pick b (c .atClear pr l (sends ClearStatus ∷ hears (stateByte (m .state)) ∷ h)) (c .atSecond pr l (sends GetStatus ∷ hears (stateByte (m .state)) ∷ h))
+            → Kept (hears (stateByte (m .state)) ∷ h) (go (issue su pr (suc l) pr (pick b Clear Second)))
+        by true v = record { setup = refl; holds = v }
+        by false v = record { setup = refl; holds = v }
+
+    second-kept : (pr : Progress) (l : ℕ) (h : List Event) (m : GetStatusMessage) → c .atSecond pr l h
+        → Kept (hears (stateByte (m .state)) ∷ h) (go (onSecond su pr l (w .next su pr) m))
+    unfolding onSecond
+    second-kept pr l h m v =
+        picked (λ (s : Session). Kept (hears (stateByte (m .state)) ∷ h) (go s)) (eqb (stateByte (m .state)) 2) _ _
+        (λ e. wish-kept pr l _ (subst (λ (x : ℕ). c .atWish pr l (hears x ∷ h)) (sym (eqb-true _ _ e)) (g .second pr l h v)))
+        (λ e. refuse-kept pr l _ _ tt (g .hear l h _ (g .cutSecond pr l h v)))
+
+    poll-kept : (b t : State) (pr : Progress) (l : ℕ) (h : List Event) (m : GetStatusMessage) → c .looking b t pr l h
+        → Kept (hears (stateByte (m .state)) ∷ h) (go (onPoll su pr l b t (w .next su pr) m))
+    unfolding onPoll
+    poll-kept b t pr l h m v =
+        picked P (eqb (stateByte (m .state)) (stateByte t)) _ _
+        (λ e. wish-kept pr l _ (subst (λ (x : ℕ). c .atWish pr l (hears x ∷ h)) (sym (eqb-true _ _ e)) (g .settle b t pr l h v)))
+        (λ e. picked P (eqb (stateByte (m .state)) (stateByte b)) _ _
+        (λ f. record { setup = refl; holds = subst (λ (x : ℕ). c .pausing b t pr l (hears x ∷ h)) (sym (eqb-true _ _ f)) (g .busy b t pr l h v) })
+        (λ f. refuse-kept pr l _ _ tt (g .hear l h _ (g .cutLooking b t pr l h v))))
+      where
+        P : Met → Type 0
+        P x = Kept (hears (stateByte (m .state)) ∷ h) (go (onMet su pr l b t (w .next su pr) x))
+
+    -- one told answer
+    pub kept : (p : Phase) (pr : Progress) (l : ℕ) (h : List Event) (a : Answer) → FitsAt F p a → ClaimAt p pr l h
+        → Kept (heardAt p a ++ h) (toldAt w su pr l p a)
+    kept First pr l h (count n) u v = stay-kept First pr l h _ v
+    kept First pr l h (reply bs) u v =
+        reading-kept pr l h (firstReply bs) (onFirst su pr l) (g .cutFirst pr l h v) (λ m. first-kept pr l h m v)
+    kept First pr l h waited u v = stay-kept First pr l h _ v
+    kept First pr l h wasReset u v = stay-kept First pr l h _ v
+    kept First pr l h failed u v = refuse-kept pr l h _ tt (g .cutFirst pr l h v)
+    kept Clear pr l h (count n) u v =
+        issue-kept pr pr l h _ Second refl (g .cutClear pr l h v) (λ m e. g .clear pr m h (subst (λ (x : ℕ). c .atClear pr x h) e v))
+    kept Clear pr l h (reply bs) u v = stay-kept Clear pr l h _ v
+    kept Clear pr l h waited u v = stay-kept Clear pr l h _ v
+    kept Clear pr l h wasReset u v = stay-kept Clear pr l h _ v
+    kept Clear pr l h failed u v = refuse-kept pr l h _ tt (g .cutClear pr l h v)
+    kept Second pr l h (count n) u v = stay-kept Second pr l h _ v
+    kept Second pr l h (reply bs) u v =
+        reading-kept pr l h (laterReply bs) (onSecond su pr l (w .next su pr)) (g .cutSecond pr l h v) (λ m. second-kept pr l h m v)
+    kept Second pr l h waited u v = stay-kept Second pr l h _ v
+    kept Second pr l h wasReset u v = stay-kept Second pr l h _ v
+    kept Second pr l h failed u v = refuse-kept pr l h _ tt (g .cutSecond pr l h v)
+    kept (Sent d) pr l h (count n) u v = by d (v .1 n u)
+      where
+        by : (e : Command) → WaitingAt (waitAfter su e) (w .took su pr d n) l h → Kept h (go (mk su (w .took su pr d n) l (Waiting (waitAfter su e))))
+        by (Erase a) v = record { setup = refl; holds = v }
+        by (SetAddress a) v = record { setup = refl; holds = v }
+        by (Block b f m) v = record { setup = refl; holds = v }
+        by (Empty b) v = record { setup = refl; holds = v }
+    kept (Sent d) pr l h (reply bs) u v = stay-kept (Sent d) pr l h _ v
+    kept (Sent d) pr l h waited u v = stay-kept (Sent d) pr l h _ v
+    kept (Sent d) pr l h wasReset u v = stay-kept (Sent d) pr l h _ v
+    kept (Sent d) pr l h failed u v = refuse-kept pr l h _ tt (v .0)
+    kept (Waiting (Pause b t ms)) pr l h (count n) u v = stay-kept (Waiting (Pause b t ms)) pr l h _ v
+    kept (Waiting (Pause b t ms)) pr l h (reply bs) u v = stay-kept (Waiting (Pause b t ms)) pr l h _ v
+    kept (Waiting (Pause b t ms)) pr l h waited u v =
+        issue-kept pr pr l h _ (Waiting (Poll b t)) refl (g .cutPausing b t pr l h v)
+        (λ m e. g .look b t pr m h (subst (λ (x : ℕ). c .pausing b t pr x h) e v))
+    kept (Waiting (Pause b t ms)) pr l h wasReset u v = stay-kept (Waiting (Pause b t ms)) pr l h _ v
+    kept (Waiting (Pause b t ms)) pr l h failed u v = stay-kept (Waiting (Pause b t ms)) pr l h _ v
+    kept (Waiting (Poll b t)) pr l h (count n) u v = stay-kept (Waiting (Poll b t)) pr l h _ v
+    kept (Waiting (Poll b t)) pr l h (reply bs) u v =
+        reading-kept pr l h (laterReply bs) (onPoll su pr l b t (w .next su pr)) (g .cutLooking b t pr l h v) (λ m. poll-kept b t pr l h m v)
+    kept (Waiting (Poll b t)) pr l h waited u v = stay-kept (Waiting (Poll b t)) pr l h _ v
+    kept (Waiting (Poll b t)) pr l h wasReset u v = stay-kept (Waiting (Poll b t)) pr l h _ v
+    kept (Waiting (Poll b t)) pr l h failed u v = refuse-kept pr l h _ tt (g .cutLooking b t pr l h v)
+    kept Resetting pr l h (count n) u v = stay-kept Resetting pr l h _ v
+    kept Resetting pr l h (reply bs) u v = stay-kept Resetting pr l h _ v
+    kept Resetting pr l h waited u v = stay-kept Resetting pr l h _ v
+    kept Resetting pr l h wasReset u v = record { setup = refl; holds = g .reset l h v }
+    kept Resetting pr l h failed u v = refuse-kept pr l h _ tt (g .cutResetting l h v)
+    kept (Finished e) pr l h a u v = record { setup = refl; holds = v }
+    kept (Refused e) pr l h a u v = record { setup = refl; holds = v }
+
+  -- a world in which the claim of its phase holds
+  pub record Good (x : World) : Type 0 where
+    pub setup : x .session .setup ≡ su
+    pub holds : ClaimAt (x .session .phase) (x .session .progress) (x .session .left) (x .past)
+
+  pub tell-good : Holds → (x : World) (a : Answer) → FitsAt F (x .session .phase) a → Good x → Good (tell w x a)
+  unfolding told
+  tell-good g x a u v =
+      let k : Kept (heardAt (x .session .phase) a ++ x .past) (toldAt w (x .session .setup) (x .session .progress) (x .session .left) (x .session .phase) a) =
+      subst
+      (λ (s : Setup). Kept (heardAt (x .session .phase) a ++ x .past) (toldAt w s (x .session .progress) (x .session .left) (x .session .phase) a))
+      (sym (v .setup))
+      (kept g (x .session .phase) (x .session .progress) (x .session .left) (x .past) a u (v .holds)) in
+      record { setup = k .setup; holds = k .holds }
+
+  -- KEPT BY EVERY RUN
+  pub run-good : Holds → (x : World) (more : List Answer) → Fits F w (x .session) more → Good x → Good (after w x more)
+  unfolding afterBy FitsBy
+  run-good g x [] u v = v
+  run-good g x (a ∷ more) u v = run-good g (tell w x a) more (u .1) (tell-good g x a (u .0) v)
+
+  pub run-always : Holds → (x : World) (more : List Answer) → Fits F w (x .session) more → Good x
+      → c .always ((after w x more) .session .left) ((after w x more) .past)
+  run-always g x more u v =
+      cut g ((after w x more) .session .phase) ((after w x more) .session .progress) ((after w x more) .session .left) ((after w x more) .past)
+      ((run-good g x more u v) .holds)
+
+  pub run-over : Holds → (x : World) (more : List Answer) → Fits F w (x .session) more → Good x → Over ((after w x more) .session .phase)
+      → (e : End) × ((after w x more) .session .phase ≡ Finished e) × c .finished e ((after w x more) .session .left) ((after w x more) .past)
+  run-over g x more u v o = by ((after w x more) .session .phase) ((run-good g x more u v) .holds) o
+    where
+      by : (p : Phase) → ClaimAt p ((after w x more) .session .progress) ((after w x more) .session .left) ((after w x more) .past) → Over p
+          → (e : End) × (p ≡ Finished e) × c .finished e ((after w x more) .session .left) ((after w x more) .past)
+      by First v o = absurd o
+      by Clear v o = absurd o
+      by Second v o = absurd o
+      by (Sent d) v o = absurd o
+      by (Waiting z) v o = absurd o
+      by Resetting v o = absurd o
+      by (Finished e) v o = (e, refl, v)
+      by (Refused e) v o = absurd o
+
+  -- the two ends, where the same is claimed of both
+  pub either-end : (l : ℕ) (h : List Event) → c .finished Stays l h → c .resetting l h → EndAt (endPhase su) l h
+  either-end l h f r = by (su .tolerant) (su .detach)
+    where
+      by : (t d : Bool) → EndAt (pick t (Finished Stays) (pick d (Finished Stays) Resetting)) l h
+      by true d = f
+      by false true = f
+      by false false = r

@@ -1,0 +1,259 @@
+-- All that happens in a run that finishes. Assumes nothing.
+use Prim.Native.Nat.{ℕ, zero, suc, _<_}
+use mathlib.Core.Path.{_≡_, refl, ap, sym, subst, _∙_}
+use mathlib.Core.Bool.{Bool, true, false}
+use mathlib.Core.List.{List, [], _∷_, _++_, append-assoc, append-nil, map, map-append}
+use lib.Dec.{eqb}
+use lib.ListN.{length}
+use Rattle.ground.specs.Pick.{pick}
+use Rattle.ground.proofs.Tests.{picked}
+use Rattle.get_status.specs.Names.{stateByte}
+use Rattle.get_status.specs.declared.State.{State}
+use Rattle.get_status.specs.declared.State.the-variants.{DfuIdle, DfuManifest}
+use Rattle.protocol.specs.declared.DfuProtocol.{DfuProtocol}
+use Rattle.session.specs.Machine.{Answer, mk, waitAfter}
+use Rattle.session.specs.Download.{download, nextOf, tookOf}
+use Rattle.session.specs.Start.{setupOf, fresh}
+use Rattle.session.specs.declared.Command.{Command}
+use Rattle.session.specs.declared.Command.the-variants.{Erase, SetAddress, Block, Empty}
+use Rattle.session.specs.declared.Request.the-variants.{GetStatus, ClearStatus, Command as Commands}
+use Rattle.session.specs.declared.Phase.the-variants.{First}
+use Rattle.session.specs.declared.Setup.{Setup}
+use Rattle.session.specs.declared.Progress.{Progress}
+use Rattle.session.specs.declared.Session.{Session}
+use Rattle.session.specs.declared.Todo.{Todo}
+use Rattle.session.specs.declared.Todo.the-variants.{Send, End as Ends, Refuse}
+use Rattle.session.specs.declared.start.DfuSansIo.{DfuSansIo}
+use Rattle.plan.specs.Plan.{Dnload}
+use Rattle.promises.specs.Run.{Event, sends, hears, opened, after, inTime, Over, Fits, wholeOf, Full}
+use Rattle.promises.specs.Sent.{onWire, planOf, Begins}
+use Rattle.promises.specs.Whole.{opening, busyAfter, targetAfter, looks, Round, roundOf, rounds, requestOf}
+use Rattle.promises.proofs.Walk.{Claims, Holds, Wished, WaitingAt, Good, run-over, either-end}
+use Rattle.promises.proofs.Wanted.{left, Heads, heads, full, wanted, fresh-wanted}
+use Rattle.promises.proofs.Onwire.{wanted-plan}
+use Rattle.promises.proofs.Started.{begun}
+
+looks-more : (b n : ℕ) → looks b n ++ (sends GetStatus ∷ hears b ∷ []) ≡ looks b (suc n)
+unfolding looks
+looks-more b zero = refl
+looks-more b (suc n) = ap (λ (x : List Event). sends GetStatus ∷ hears b ∷ x) (looks-more b n)
+
+rounds-more : (t : Bool) (rs : List Round) (r : Round) → rounds t (rs ++ (r ∷ [])) ≡ rounds t rs ++ roundOf t r
+unfolding rounds
+rounds-more t [] r = append-nil _
+rounds-more t (q ∷ rs) r = ap (λ (x : List Event). roundOf t q ++ x) (rounds-more t rs r) ∙ sym (append-assoc (roundOf t q) (rounds t rs) (roundOf t r))
+
+module _ (tolerant : Bool) (all : List Command) where
+  -- the rounds that are over, what has happened since, and the requests that are still wanted
+  record Sofar (h since : List Event) (rest : List Command) : Type 0 where
+    st : ℕ
+    rs : List Round
+    events : inTime h ≡ (opening st ++ rounds tolerant rs) ++ since
+    list : map requestOf rs ++ rest ≡ all
+
+  -- a round that is on: n busy replies so far, and what was sent since
+  record On (b t : State) (h more : List Event) (rest : List Command) : Type 0 where
+    c : Command
+    n : ℕ
+    busy : stateByte b ≡ busyAfter c
+    target : stateByte t ≡ targetAfter tolerant c
+    sofar : Sofar h (sends (Commands c) ∷ (looks (busyAfter c) n ++ more)) (c ∷ rest)
+
+  -- the opening so far
+  record Opening (h more : List Event) (rest : List Command) : Type 0 where
+    st : ℕ
+    events : inTime h ≡ sends GetStatus ∷ hears st ∷ (pick (eqb st 10) (sends ClearStatus ∷ []) [] ++ more)
+    list : rest ≡ all
+
+  append-more : (h since : List Event) (e : Event) (rest : List Command) → Sofar h since rest → Sofar (e ∷ h) (since ++ (e ∷ [])) rest
+  unfolding inTime
+  append-more h since e rest v = record {
+    st = v .st;
+    rs = v .rs;
+    events = ap (λ (x : List Event). x ++ (e ∷ [])) (v .events) ∙ append-assoc (opening (v .st) ++ rounds tolerant (v .rs)) since (e ∷ []);
+    list = v .list;
+  }
+
+  -- the round is over
+  round-over : (h : List Event) (c : Command) (n : ℕ) (rest : List Command)
+      → Sofar h (roundOf tolerant (record { command = c; busy = n })) (c ∷ rest) → Sofar h [] rest
+  round-over h c n rest v =
+      let r : Round = record { command = c; busy = n } in
+      record {
+        st = v .st;
+        rs = v .rs ++ (r ∷ []);
+        events = v .events
+            ∙ append-assoc (opening (v .st)) (rounds tolerant (v .rs)) (roundOf tolerant r)
+            ∙ ap (λ (x : List Event). opening (v .st) ++ x) (sym (rounds-more tolerant (v .rs) r))
+            ∙ sym (append-nil _);
+        list = ap (λ (x : List Command). x ++ rest) (map-append requestOf (v .rs) (r ∷ [])) ∙ append-assoc (map requestOf (v .rs)) (c ∷ []) rest ∙ v .list;
+      }
+
+  on-more : (b t : State) (h more : List Event) (e : Event) (rest : List Command) → On b t h more rest → On b t (e ∷ h) (more ++ (e ∷ [])) rest
+  on-more b t h more e rest v = record {
+    c = v .c;
+    n = v .n;
+    busy = v .busy;
+    target = v .target;
+    sofar = subst (λ (x : List Event). Sofar (e ∷ h) (sends (Commands (v .c)) ∷ x) (v .c ∷ rest)) (append-assoc (looks (busyAfter (v .c)) (v .n)) more (e ∷ []))
+        (append-more h _ e (v .c ∷ rest) (v .sofar));
+  }
+
+abbrev told : List ℕ → Setup → List Command → Claims
+told ps su all = record {
+  atFirst = λ pr l h. (inTime h ≡ sends GetStatus ∷ []) × (left ps su pr ≡ all);
+  atClear = λ pr l h. (st : ℕ) × (eqb st 10 ≡ true) × (inTime h ≡ sends GetStatus ∷ hears st ∷ sends ClearStatus ∷ []) × (left ps su pr ≡ all);
+  atSecond = λ pr l h. Opening (su .tolerant) all h (sends GetStatus ∷ []) (left ps su pr);
+  atWish = λ pr l h. Sofar (su .tolerant) all h [] (left ps su pr);
+  pausing = λ b t pr l h. On (su .tolerant) all b t h [] (left ps su pr);
+  looking = λ b t pr l h. On (su .tolerant) all b t h (sends GetStatus ∷ []) (left ps su pr);
+  resetting = λ l h. Sofar (su .tolerant) all h [] [];
+  finished = λ e l h. Sofar (su .tolerant) all h [] [];
+  refused = λ e l h. Unit;
+  always = λ l h. Unit;
+}
+
+module _ (ps : List ℕ) (su : Setup) (all : List Command) where
+  -- a request is sent, and its wait begins
+  begins-round : (c : Command) (h : List Event) (pr : Progress) (l : ℕ) → Sofar (su .tolerant) all (sends (Commands c) ∷ h) (sends (Commands c) ∷ []) (c ∷ left ps su pr)
+      → WaitingAt (download ps) su Full (told ps su all) (waitAfter su c) pr l (sends (Commands c) ∷ h)
+  unfolding looks
+  begins-round (Erase a) h pr l v = record { c = Erase a; n = 0; busy = refl; target = refl; sofar = v }
+  begins-round (SetAddress a) h pr l v = record { c = SetAddress a; n = 0; busy = refl; target = refl; sofar = v }
+  begins-round (Block n f m) h pr l v = record { c = Block n f m; n = 0; busy = refl; target = refl; sofar = v }
+  begins-round (Empty n) h pr l v = record { c = Empty n; n = 0; busy = refl; target = by (su .tolerant); sofar = v }
+    where
+      by : (b : Bool) → stateByte (pick b DfuIdle DfuManifest) ≡ pick b 2 7
+      by true = refl
+      by false = refl
+
+  wished : (pr : Progress) (l : ℕ) (h : List Event) (t : Todo) → Heads (download ps) (left ps su) su (left ps su pr) t → Sofar (su .tolerant) all h [] (left ps su pr)
+      → Wished (download ps) su Full (told ps su all) l h t
+  wished pr l h (Send c then) e v =
+      let on : Sofar (su .tolerant) all (sends (Commands c) ∷ h) (sends (Commands c) ∷ []) (c ∷ left ps su (tookOf su then c (wholeOf c))) =
+      subst (λ (x : List Command). Sofar (su .tolerant) all (sends (Commands c) ∷ h) (sends (Commands c) ∷ []) x) (sym e)
+      (append-more (su .tolerant) all h [] (sends (Commands c)) (left ps su pr) v) in
+      λ m z. (
+        tt,
+        λ n u. begins-round c h (tookOf su then c n) m
+            (subst (λ (x : Progress). Sofar (su .tolerant) all (sends (Commands c) ∷ h) (sends (Commands c) ∷ []) (c ∷ left ps su x)) (sym (full su then c n u)) on),
+      )
+  wished pr l h Ends e v =
+      let all-done : Sofar (su .tolerant) all h [] [] = subst (λ (x : List Command). Sofar (su .tolerant) all h [] x) (sym e) v in
+      either-end (download ps) su Full (told ps su all) l h all-done all-done
+  wished pr l h (Refuse x) e v = tt
+
+  -- one more busy reply, or the target
+  busy-more : (b t : State) (h : List Event) (rest : List Command) → On (su .tolerant) all b t h (sends GetStatus ∷ []) rest → On (su .tolerant) all b t (hears (stateByte b) ∷ h) [] rest
+  busy-more b t h rest v =
+      let w : On (su .tolerant) all b t (hears (stateByte b) ∷ h) (sends GetStatus ∷ hears (stateByte b) ∷ []) rest = on-more (su .tolerant) all b t h _ _ rest v in
+      let q : looks (busyAfter (w .c)) (w .n) ++ (sends GetStatus ∷ hears (stateByte b) ∷ []) ≡ looks (busyAfter (w .c)) (suc (w .n)) ++ [] =
+      ap (λ (x : ℕ). looks (busyAfter (w .c)) (w .n) ++ (sends GetStatus ∷ hears x ∷ [])) (w .busy) ∙ looks-more (busyAfter (w .c)) (w .n) ∙ sym (append-nil _) in
+      record {
+        c = w .c;
+        n = suc (w .n);
+        busy = w .busy;
+        target = w .target;
+        sofar = subst (λ (x : List Event). Sofar (su .tolerant) all (hears (stateByte b) ∷ h) (sends (Commands (w .c)) ∷ x) (w .c ∷ rest)) q (w .sofar);
+      }
+
+  target-met : (b t : State) (h : List Event) (rest : List Command) → On (su .tolerant) all b t h (sends GetStatus ∷ []) rest → Sofar (su .tolerant) all (hears (stateByte t) ∷ h) [] rest
+  target-met b t h rest v =
+      let w : On (su .tolerant) all b t (hears (stateByte t) ∷ h) (sends GetStatus ∷ hears (stateByte t) ∷ []) rest = on-more (su .tolerant) all b t h _ _ rest v in
+      round-over (su .tolerant) all _ (w .c) (w .n) rest
+      (subst (λ (x : ℕ). Sofar (su .tolerant) all (hears (stateByte t) ∷ h) (sends (Commands (w .c)) ∷ (looks (busyAfter (w .c)) (w .n) ++ (sends GetStatus ∷ hears x ∷ []))) (w .c ∷ rest)) (w .target) (w .sofar))
+
+  first-told : (pr : Progress) (l : ℕ) (h : List Event) (st : ℕ) → (told ps su all) .atFirst pr (suc l) h
+      → pick (eqb st 10) ((told ps su all) .atClear pr l (sends ClearStatus ∷ hears st ∷ h)) ((told ps su all) .atSecond pr l (sends GetStatus ∷ hears st ∷ h))
+  unfolding inTime
+  first-told pr l h st v =
+      picked (λ (X : Type 0). X) (eqb st 10) _ _
+      (λ e. (st, e, ap (λ (x : List Event). (x ++ (hears st ∷ [])) ++ (sends ClearStatus ∷ [])) (v .0), v .1))
+      (λ e.
+      record {
+        st = st;
+        events = ap (λ (x : List Event). (x ++ (hears st ∷ [])) ++ (sends GetStatus ∷ [])) (v .0)
+            ∙ ap (λ (b : Bool). sends GetStatus ∷ hears st ∷ (pick b (sends ClearStatus ∷ []) [] ++ (sends GetStatus ∷ []))) (sym e);
+        list = v .1;
+      })
+
+  clear-told : (pr : Progress) (l : ℕ) (h : List Event) → (told ps su all) .atClear pr (suc l) h → (told ps su all) .atSecond pr l (sends GetStatus ∷ h)
+  unfolding inTime
+  clear-told pr l h (st, e, v, q) = record {
+    st = st;
+    events = ap (λ (x : List Event). x ++ (sends GetStatus ∷ [])) v
+        ∙ ap (λ (b : Bool). sends GetStatus ∷ hears st ∷ (pick b (sends ClearStatus ∷ []) [] ++ (sends GetStatus ∷ []))) (sym e);
+    list = q;
+  }
+
+  second-told : (pr : Progress) (l : ℕ) (h : List Event) → (told ps su all) .atSecond pr l h → (told ps su all) .atWish pr l (hears 2 ∷ h)
+  unfolding inTime rounds
+  second-told pr l h v = record {
+    st = v .st;
+    rs = [];
+    events = ap (λ (x : List Event). x ++ (hears 2 ∷ [])) (v .events)
+        ∙ ap (λ (x : List Event). sends GetStatus ∷ hears (v .st) ∷ x) (append-assoc (pick (eqb (v .st) 10) (sends ClearStatus ∷ []) []) (sends GetStatus ∷ []) (hears 2 ∷ []))
+        ∙ sym (append-nil _)
+        ∙ sym (append-nil _);
+    list = v .list;
+  }
+
+  holds : 0 < su .size → Holds (download ps) su Full (told ps su all)
+  holds k = record {
+    first = first-told;
+    clear = clear-told;
+    second = second-told;
+    wish = λ pr l h v. wished pr l h (nextOf ps su pr) (heads ps su pr k) v;
+    look = λ b t pr l h v. on-more (su .tolerant) all b t h [] (sends GetStatus) (left ps su pr) v;
+    busy = λ b t pr l h v. busy-more b t h (left ps su pr) v;
+    settle = λ b t pr l h v. target-met b t h (left ps su pr) v;
+    cutFirst = λ pr l h v. tt;
+    cutClear = λ pr l h v. tt;
+    cutSecond = λ pr l h v. tt;
+    cutWish = λ pr l h v. tt;
+    cutPausing = λ b t pr l h v. tt;
+    cutLooking = λ b t pr l h v. tt;
+    reset = λ l h v. v;
+    cutResetting = λ l h v. tt;
+    cutFinished = λ e l h v. tt;
+    cutRefused = λ e l h v. tt;
+    deny = λ e l h d v. tt;
+    hear = λ l h st v. tt;
+  }
+
+fresh-good : (ps : List ℕ) (su : Setup) (l : ℕ) → 0 < su .size → Good (download ps) su Full (told ps su (wanted su ps)) (opened (mk su (fresh su) l First))
+unfolding inTime
+fresh-good ps su l k = record { setup = refl; holds = (refl, fresh-wanted ps su k) }
+
+-- what a finished run is: the first reply's state, and a round for each request of the plan
+pub record Listed (io : DfuSansIo) (p : DfuProtocol) (fw ps : List ℕ) (past : List Event) : Type 0 where
+  pub shown : ℕ
+  pub all : List Round
+  pub events : inTime past ≡ opening shown ++ rounds (io .descriptor .«manifestation_tolerant») all
+  pub requests : map (onWire fw) (map requestOf all) ≡ planOf io p fw ps
+
+module _ (io : DfuSansIo) (p : DfuProtocol) (fw ps : List ℕ) (budget : ℕ) (s : Session) (more : List Answer) where
+  abbrev su : Setup
+  su = setupOf io p (length fw) (length ps)
+
+  -- THE WHOLE LIST OF A FINISHED RUN
+  pub finished-lists : 0 < length fw → 0 < io .descriptor .«transfer_size» → Begins io p fw ps budget s → Fits Full (download ps) s more
+      → Over ((after (download ps) (opened s) more) .session .phase) → Listed io p fw ps ((after (download ps) (opened s) more) .past)
+  finished-lists h k b =
+      let (l, z, e) = begun io p fw ps budget s h k b in
+      subst
+      (λ (x : Session).
+      Fits Full (download ps) x more
+      → Over ((after (download ps) (opened x) more) .session .phase)
+      → Listed io p fw ps ((after (download ps) (opened x) more) .past))
+      (sym e)
+      (λ u o.
+      let v : Sofar (su .tolerant) (wanted su ps) ((after (download ps) (opened (mk su (fresh su) l First)) more) .past) [] [] =
+      (run-over (download ps) su Full (told ps su (wanted su ps)) (holds ps su (wanted su ps) k) (opened (mk su (fresh su) l First)) more u (fresh-good ps su l k) o) .2 in
+      let q : map requestOf (v .rs) ≡ wanted su ps = sym (append-nil (map requestOf (v .rs))) ∙ v .list in
+      record {
+        shown = v .st;
+        all = v .rs;
+        events = v .events ∙ append-nil _;
+        requests = ap (λ (x : List Command). map (onWire fw) x) q ∙ wanted-plan fw su ps refl k;
+      })

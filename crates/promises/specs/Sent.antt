@@ -1,0 +1,36 @@
+-- The download requests of a run on the wire, and the plan of start's own arguments.
+use Prim.Native.Nat.{ℕ}
+use mathlib.Core.Path.{_≡_}
+use mathlib.Core.List.{List, []}
+use lib.ListN.{length}
+use Rattle.protocol.specs.declared.DfuProtocol.{DfuProtocol}
+use Rattle.session.specs.declared.Command.{Command}
+use Rattle.session.specs.declared.Request.the-variants.{Command as Commands}
+use Rattle.session.specs.declared.Session.{Session}
+use Rattle.session.specs.declared.wire.Control.{Control}
+use Rattle.session.specs.declared.start.DfuSansIo.{DfuSansIo}
+use Rattle.session.specs.declared.start.Started.the-variants.{Session as Begun}
+use Rattle.session.specs.Wire.{wireOf}
+use Rattle.session.specs.Download.{filledFor, requestData}
+use Rattle.session.specs.Start.{dfuseb, targetOf, beginOf}
+use Rattle.plan.specs.Dfu11.{SetupPacket, packet}
+use Rattle.plan.specs.Plan.{Dnload, plan}
+
+-- our control transfers as setup packets: with the bytes that they carry, with the bytes that they take
+abbrev pub carried : Control → SetupPacket
+carried c = packet (c .«request_type») (c .request) (c .value) (c .carries)
+
+abbrev pub taken : Control → SetupPacket
+taken c = packet (c .«request_type») (c .request) (c .value) (c .takes)
+
+-- a download request: its packet, and the bytes that `data` hands over for it
+abbrev pub onWire : List ℕ → Command → Dnload
+onWire firmware c = record { setup = carried (wireOf (Commands c)); bytes = requestData (Commands c) firmware (filledFor (Commands c) []) }
+
+-- the papers' requests for start's own arguments
+abbrev pub planOf : DfuSansIo → DfuProtocol → List ℕ → List ℕ → List Dnload
+planOf io p firmware pages = plan (dfuseb p) (targetOf p (io .«override_address»)) (io .descriptor .«transfer_size») firmware pages
+
+-- start begins a session, or has finished it at once
+abbrev pub Begins : DfuSansIo → DfuProtocol → List ℕ → List ℕ → ℕ → Session → Type 0
+Begins io p firmware pages budget s = beginOf io p (length firmware) (length pages) budget ≡ Begun s

@@ -1,0 +1,49 @@
+-- All that happens in a run that finishes, in order: the opening, and a round for each download request.
+use Prim.Native.Nat.{ℕ, zero, suc}
+use mathlib.Core.Bool.{Bool}
+use mathlib.Core.List.{List, [], _∷_, _++_}
+use lib.Dec.{eqb}
+use Rattle.ground.specs.Pick.{pick}
+use Rattle.session.specs.declared.Command.{Command}
+use Rattle.session.specs.declared.Command.the-variants.{Erase, SetAddress, Block, Empty}
+use Rattle.session.specs.declared.Request.the-variants.{GetStatus, ClearStatus, Command as Commands}
+use Rattle.promises.specs.Run.{Event, sends, hears}
+
+-- GETSTATUS; CLRSTATUS if and only if the reply said 10; GETSTATUS, whose reply says 2
+abbrev pub opening : ℕ → List Event
+opening st = sends GetStatus ∷ hears st ∷ (pick (eqb st 10) (sends ClearStatus ∷ []) [] ++ (sends GetStatus ∷ hears 2 ∷ []))
+
+-- the busy state that a wait may meet and the target that ends it: 4 and 5; after the empty block 7, and 2 or 7
+abbrev pub busyAfter : Command → ℕ
+busyAfter (Erase a) = 4
+busyAfter (SetAddress a) = 4
+busyAfter (Block n f m) = 4
+busyAfter (Empty n) = 7
+
+abbrev pub targetAfter : Bool → Command → ℕ
+targetAfter tolerant (Erase a) = 5
+targetAfter tolerant (SetAddress a) = 5
+targetAfter tolerant (Block n f m) = 5
+targetAfter tolerant (Empty n) = pick tolerant 2 7
+
+-- GETSTATUS answered busy, so many times
+unfoldable pub looks : ℕ → ℕ → List Event
+looks busy zero = []
+looks busy (suc n) = sends GetStatus ∷ hears busy ∷ looks busy n
+
+-- a download request, the busy replies of its wait, and the reply that shows the target
+pub record Round : Type 0 where
+  pub command : Command
+  pub busy : ℕ
+
+abbrev pub roundOf : Bool → Round → List Event
+roundOf tolerant r =
+    sends (Commands (r .command))
+    ∷ (looks (busyAfter (r .command)) (r .busy) ++ (sends GetStatus ∷ hears (targetAfter tolerant (r .command)) ∷ []))
+
+unfoldable pub rounds : Bool → List Round → List Event
+rounds tolerant [] = []
+rounds tolerant (r ∷ rs) = roundOf tolerant r ++ rounds tolerant rs
+
+abbrev pub requestOf : Round → Command
+requestOf r = r .command
