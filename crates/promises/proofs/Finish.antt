@@ -18,8 +18,8 @@ use Rattle.session.specs.declared.Phase.the-variants.{First, Finished}
 use Rattle.session.specs.declared.Setup.{Setup}
 use Rattle.session.specs.declared.Session.{Session}
 use Rattle.session.specs.declared.start.DfuSansIo.{DfuSansIo}
-use Rattle.plan.specs.Plan.{plan}
-use Rattle.plan.proofs.Count.{plan-length}
+use Rattle.promises.specs.Plan.{plan}
+use Rattle.promises.proofs.Count.{plan-length}
 use Rattle.promises.specs.Run.{World, opened, after, transfers, cleared, Unrefused, Over}
 use Rattle.promises.specs.Sent.{onWire, Begins}
 use Rattle.promises.specs.Fair.{heeded, Fair, AllYes, Ready, requestsOf, bound}

@@ -21,7 +21,7 @@ use Rattle.session.specs.declared.Session.{Session}
 use Rattle.session.specs.declared.Todo.{Todo}
 use Rattle.session.specs.declared.Todo.the-variants.{Send, End as Ends, Refuse}
 use Rattle.session.specs.declared.start.DfuSansIo.{DfuSansIo}
-use Rattle.plan.specs.Plan.{Dnload}
+use Rattle.promises.specs.Plan.{Dnload}
 use Rattle.promises.specs.Run.{Event, sends, hears, opened, after, commanded, Over, Fits, wholeOf, Full}
 use Rattle.promises.specs.Sent.{onWire, planOf, Begins}
 use Rattle.promises.proofs.Walk.{Claims, Holds, Wished, SentAt, WaitingAt, Good, run-always, run-over, either-end}

@@ -1,6 +1,9 @@
 pub mod Pinned
 pub mod Starred
 pub mod Wire
+pub mod Pages
+pub mod Blocks
+pub mod Count
 pub mod Walk
 pub mod Wanted
 pub mod Onwire

@@ -1,4 +1,7 @@
 pub mod Pins
+pub mod Dfu11
+pub mod Dfuse
+pub mod Plan
 pub mod Run
 pub mod Calls
 pub mod Sent

@@ -24,7 +24,7 @@ use Rattle.session.specs.declared.start.Started.the-variants.{Session as Begun,
 use Rattle.session.specs.Machine.{Answer, reply, waited, wasReset, count as counts, mk, asksAt, saidAsk}
 use Rattle.session.specs.Download.{download}
 use Rattle.session.specs.Start.{newIo, beginOf, saidStart}
-use Rattle.plan.specs.Plan.{sum}
+use Rattle.promises.specs.Plan.{sum}
 use Rattle.promises.specs.Run.{opened, after, transfers}
 
 -- what a case comes to: a text read as document 01's number and values, with the bytes of all its pages; a start that says no; a run's

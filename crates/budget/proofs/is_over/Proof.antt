@@ -1,7 +1,7 @@
 -- `is_over` meets its contract: the tests are those of the definition.
 use borrow.Author.Needs.{needs}
-use Rattle.plan.proofs.is_over.Statement.{statement}
-use Rattle.plan.proofs.is_over.Tie as tie
+use Rattle.budget.proofs.is_over.Statement.{statement}
+use Rattle.budget.proofs.is_over.Tie as tie
 
 returns : tie.Need-returns
 returns c = simp (c .if1 .taken)

@@ -2,10 +2,10 @@
 use mathlib.Core.Path.{ap, sym, _∙_}
 use Prim.Native.Nat.{ℕ}
 use borrow.Author.Needs.{needs}
-use Rattle.plan.specs.Plan.{blockCount}
-use Rattle.plan.proofs.Blocks.{blockCount-sizeless}
-use Rattle.plan.proofs.blocks_of.Statement.{statement}
-use Rattle.plan.proofs.blocks_of.Tie as tie
+use Rattle.promises.specs.Plan.{blockCount}
+use Rattle.promises.proofs.Blocks.{blockCount-sizeless}
+use Rattle.budget.proofs.blocks_of.Statement.{statement}
+use Rattle.budget.proofs.blocks_of.Tie as tie
 
 returns : tie.Need-returns
 returns c = sym (ap (λ (s : ℕ). blockCount (c .before .args .len) s) (c .if1 .taken) ∙ blockCount-sizeless (c .before .args .len))

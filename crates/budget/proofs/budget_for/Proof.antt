@@ -2,9 +2,9 @@
 use native.Mathlib.Omega.{arith}
 use borrow.Author.Needs.{needs}
 use borrow.Author.Tests.{lt-ltb, le-ltb}
-use Rattle.plan.proofs.Count.{too-busy, too-many, few-enough}
-use Rattle.plan.proofs.budget_for.Statement.{statement}
-use Rattle.plan.proofs.budget_for.Tie as tie
+use Rattle.budget.proofs.Fits.{too-busy, too-many, few-enough}
+use Rattle.budget.proofs.budget_for.Statement.{statement}
+use Rattle.budget.proofs.budget_for.Tie as tie
 
 returns : tie.Need-returns
 returns c = simp (le-ltb _ _ (too-busy (c .before .args .requests) (c .before .args .busy) (c .before .pre) (c .if1 .taken)))

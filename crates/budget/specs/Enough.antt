@@ -7,9 +7,9 @@ use Rattle.ground.specs.Pick.{pick}
 use Rattle.protocol.specs.declared.DfuProtocol.{DfuProtocol}
 use Rattle.session.specs.declared.start.DfuSansIo.{DfuSansIo}
 use Rattle.session.specs.Start.{dfuseb, overb}
-use Rattle.plan.specs.Plan.{commands}
-use Rattle.plan.specs.declared.Suffices.{Suffices}
-use Rattle.plan.specs.declared.Suffices.the-variants.{Budget, Never}
+use Rattle.promises.specs.Plan.{commands}
+use Rattle.budget.specs.declared.Suffices.{Suffices}
+use Rattle.budget.specs.declared.Suffices.the-variants.{Budget, Never}
 
 -- three transfers for the opening with its CLRSTATUS, and k + 2 for each download request: it, and k + 1 looks
 abbrev pub enoughFor : ℕ → ℕ → ℕ

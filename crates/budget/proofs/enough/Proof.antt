@@ -7,10 +7,10 @@ use borrow.Author.Needs.{needs}
 use borrow.Author.Tests.{lt-ltb, le-ltb, ltb-false}
 use Rattle.memory_layout.specs.Layout.{maxPages}
 use Rattle.session.specs.Start.{overb}
-use Rattle.plan.specs.Enough.{enoughOf}
-use Rattle.plan.proofs.Count.{commands-pos}
-use Rattle.plan.proofs.enough.Statement.{statement}
-use Rattle.plan.proofs.enough.Tie as tie
+use Rattle.budget.specs.Enough.{enoughOf}
+use Rattle.budget.proofs.Fits.{commands-pos}
+use Rattle.budget.proofs.enough.Statement.{statement}
+use Rattle.budget.proofs.enough.Tie as tie
 
 -- DfuSe pages that are not too many are few
 few : (d : Bool) (n : ℕ) → overb d n ≡ false → d ≡ true → n ≤ maxPages

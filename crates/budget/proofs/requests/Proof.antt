@@ -5,9 +5,9 @@ use native.Mathlib.Omega.{arith}
 use borrow.Author.Needs.{needs}
 use lib.ListN.{length}
 use Rattle.session.proofs.Covering.{bounded}
-use Rattle.plan.proofs.Blocks.{blockCount-bound}
-use Rattle.plan.proofs.requests.Statement.{statement}
-use Rattle.plan.proofs.requests.Tie as tie
+use Rattle.promises.proofs.Blocks.{blockCount-bound}
+use Rattle.budget.proofs.requests.Statement.{statement}
+use Rattle.budget.proofs.requests.Tie as tie
 
 blocks-of-requires : tie.Need-blocks-of-requires
 blocks-of-requires c κs = search needs

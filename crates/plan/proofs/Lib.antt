@@ -1,3 +1,0 @@
-pub mod Pages
-pub mod Blocks
-pub mod Count

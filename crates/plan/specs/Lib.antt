@@ -1,4 +1,0 @@
-pub mod Dfu11
-pub mod Dfuse
-pub mod Plan
-pub mod Enough
