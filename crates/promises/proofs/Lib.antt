@@ -19,3 +19,5 @@ pub mod Roomy
 pub mod Heeded
 pub mod Ends
 pub mod Finish
+pub mod Clears
+pub mod Ideal

@@ -1,0 +1,62 @@
+-- A budget of `enough` always suffices, and the call is pinned down. Assumes nothing.
+use Prim.Native.Nat.{ℕ, suc, _+_, _*_, _^_, _<_, _≤_, zero}
+use native.Mathlib.Omega.{arith}
+use mathlib.Core.Path.{_≡_, refl, sym, _∙_}
+use mathlib.Core.Bool.{Bool}
+use mathlib.Core.List.{List}
+use lib.Dec.{ltb}
+use lib.ListN.{length}
+use Rattle.ground.specs.Pick.{pick}
+use Rattle.ground.proofs.Tests.{picked}
+use Rattle.protocol.specs.declared.DfuProtocol.{DfuProtocol}
+use Rattle.session.specs.Machine.{Answer, mk}
+use Rattle.session.specs.Download.{download}
+use Rattle.session.specs.Start.{dfuseb, overb, setupOf, fresh}
+use Rattle.session.specs.declared.Phase.the-variants.{First}
+use Rattle.session.specs.declared.Session.{Session}
+use Rattle.session.specs.declared.start.DfuSansIo.{DfuSansIo}
+use Rattle.promises.specs.Pins.{Pins}
+use Rattle.promises.specs.Sent.{Begins}
+use Rattle.promises.specs.Fair.{heeded, Fair, Ready, requestsOf}
+use Rattle.promises.specs.Finish.{Finishes}
+use Rattle.promises.proofs.Clears.{clears-once}
+use Rattle.promises.proofs.Finish.{starts, finishes}
+use Rattle.budget.specs.Enough.{enoughFor, counted, enoughOf}
+use Rattle.budget.specs.declared.Suffices.{Suffices}
+use Rattle.budget.specs.declared.Suffices.the-variants.{Budget, Never}
+use Rattle.budget.proofs.enough.Kinds as enough-kinds
+use Rattle.budget.proofs.enough.Reads as enough-reads
+
+never-budget : {n : ℕ} → Never ≡ Budget n → ⊥
+never-budget e = let z : _≡_ {A = ℕ} 0 1 = cc in omega arith
+
+budget-is : {m n : ℕ} → Budget m ≡ Budget n → m ≡ n
+budget-is e = cc
+
+-- what is answered is the number
+answered : (io : DfuSansIo) (p : DfuProtocol) (fw ps : List ℕ) (k n : ℕ) → enoughOf io p (length fw) ps k ≡ Budget n → enoughFor (requestsOf io p fw ps) k ≡ n
+unfolding enoughOf
+answered io p fw ps k n =
+    picked P (ltb 4294967295 (length fw)) _ _ (λ e z. absurd (never-budget z))
+    (λ e. picked P (overb (dfuseb p) (length ps)) _ _ (λ f z. absurd (never-budget z))
+    (λ f. picked P (ltb (enoughFor (requestsOf io p fw ps) k) (2 ^ 64)) _ _ (λ g z. budget-is z) (λ g z. absurd (never-budget z))))
+  where
+    P : Suffices → Type 0
+    P x = x ≡ Budget n → enoughFor (requestsOf io p fw ps) k ≡ n
+
+-- ENOUGH SUFFICES: start begins with it, and every fair run with it or more finishes
+module _ (io : DfuSansIo) (p : DfuProtocol) (fw ps : List ℕ) (k n : ℕ) where
+  pub enough-starts : enoughOf io p (length fw) ps k ≡ Budget n → Ready io p fw ps → (s : Session) × Begins io p fw ps n s
+  enough-starts e r = by n (answered io p fw ps k n e)
+    where
+      by : (n : ℕ) → enoughFor (requestsOf io p fw ps) k ≡ n → (s : Session) × Begins io p fw ps n s
+      by zero z = absurd (omega (arith, z))
+      by (suc l) z = (mk (setupOf io p (length fw) (length ps)) (fresh (setupOf io p (length fw) (length ps))) l First, starts io p fw ps r l)
+
+  pub enough-suffices : (budget : ℕ) (s : Session) (more : List Answer) → enoughOf io p (length fw) ps k ≡ Budget n → n ≤ budget → Ready io p fw ps
+      → Begins io p fw ps budget s → Fair k 0 (download ps) s (heeded (download ps) s more) → Finishes k io p fw ps s more
+  enough-suffices budget s more e m r b f =
+      finishes io p fw ps k budget s more r b f (omega (arith, clears-once io p fw ps budget s more b, answered io p fw ps k n e, m))
+
+pub pinned-enough : Pins enough-kinds.ps enough-kinds.r {R = Suffices} enough-reads.Post (λ κs r s. r)
+pinned-enough κs a x y s t p q = p ∙ sym q

@@ -1,0 +1,93 @@
+-- A session clears at most once. Assumes nothing.
+use Prim.Native.Nat.{ℕ, suc, _≤_}
+use native.Mathlib.Omega.{arith}
+use mathlib.Core.Path.{_≡_, refl, subst, sym}
+use mathlib.Core.Logic.{⊎-elim}
+use mathlib.Core.List.{List}
+use lib.Dec.{eqb}
+use lib.ListN.{length}
+use Rattle.ground.proofs.Tests.{picked}
+use Rattle.protocol.specs.declared.DfuProtocol.{DfuProtocol}
+use Rattle.session.specs.Machine.{Answer, Work, waitAfter}
+use Rattle.session.specs.Download.{download}
+use Rattle.session.specs.Start.{setupOf}
+use Rattle.session.specs.declared.Command.{Command}
+use Rattle.session.specs.declared.Command.the-variants.{Erase, SetAddress, Block, Empty}
+use Rattle.session.specs.declared.Progress.{Progress}
+use Rattle.session.specs.declared.Setup.{Setup}
+use Rattle.session.specs.declared.Session.{Session}
+use Rattle.session.specs.declared.Todo.{Todo}
+use Rattle.session.specs.declared.Todo.the-variants.{Send, End as Ends, Refuse}
+use Rattle.session.specs.declared.start.DfuSansIo.{DfuSansIo}
+use Rattle.promises.specs.Run.{Event, opened, after, cleared}
+use Rattle.promises.specs.Sent.{Begins}
+use Rattle.promises.proofs.Walk.{Claims, Holds, Wished, WaitingAt, Good, run-always, either-end}
+use Rattle.promises.proofs.Spends.{Any, all-fit}
+use Rattle.promises.proofs.Started.{started}
+
+abbrev once : Claims
+once = record {
+  atFirst = λ pr l h. cleared h ≡ 0;
+  atClear = λ pr l h. cleared h ≤ 1;
+  atSecond = λ pr l h. cleared h ≤ 1;
+  atWish = λ pr l h. cleared h ≤ 1;
+  pausing = λ b t pr l h. cleared h ≤ 1;
+  looking = λ b t pr l h. cleared h ≤ 1;
+  resetting = λ l h. cleared h ≤ 1;
+  finished = λ e l h. cleared h ≤ 1;
+  refused = λ e l h. cleared h ≤ 1;
+  always = λ l h. cleared h ≤ 1;
+}
+
+module _ (w : Work) (su : Setup) where
+  waits : (c : Command) (pr : Progress) (l : ℕ) (h : List Event) → cleared h ≤ 1 → WaitingAt w su Any once (waitAfter su c) pr l h
+  waits (Erase a) pr l h v = v
+  waits (SetAddress a) pr l h v = v
+  waits (Block n f m) pr l h v = v
+  waits (Empty n) pr l h v = v
+
+  wished : (l : ℕ) (h : List Event) (t : Todo) → cleared h ≤ 1 → Wished w su Any once l h t
+  unfolding cleared
+  wished l h (Send c then) v = λ m e. (v, λ n u. waits c (w .took su then c n) m _ v)
+  wished l h Ends v = either-end w su Any once l h v v
+  wished l h (Refuse e) v = v
+
+  holds : Holds w su Any once
+  unfolding cleared
+  holds = record {
+    first = λ pr l h st v. picked (λ (X : Type 0). X) (eqb st 10) _ _ (λ e. omega (arith, v)) (λ e. omega (arith, v));
+    clear = λ pr l h v. v;
+    second = λ pr l h v. v;
+    wish = λ pr l h v. wished l h (w .next su pr) v;
+    look = λ b t pr l h v. v;
+    busy = λ b t pr l h v. v;
+    settle = λ b t pr l h v. v;
+    reset = λ l h v. v;
+    cutFirst = λ pr l h v. omega (arith, v);
+    cutClear = λ pr l h v. v;
+    cutSecond = λ pr l h v. v;
+    cutWish = λ pr l h v. v;
+    cutPausing = λ b t pr l h v. v;
+    cutLooking = λ b t pr l h v. v;
+    cutResetting = λ l h v. v;
+    cutFinished = λ e l h v. v;
+    cutRefused = λ e l h v. v;
+    deny = λ e l h d v. v;
+    hear = λ l h st v. v;
+  }
+
+-- AT MOST ONE CLRSTATUS
+pub clears-once : (io : DfuSansIo) (p : DfuProtocol) (fw ps : List ℕ) (budget : ℕ) (s : Session) (more : List Answer) → Begins io p fw ps budget s
+    → cleared ((after (download ps) (opened s) more) .past) ≤ 1
+unfolding cleared
+clears-once io p fw ps budget s more b =
+    let (l, e) = started io p fw ps budget s b in
+    let g : Good (download ps) su Any once (opened s) =
+    ⊎-elim
+    (λ q. subst (λ (x : Session). Good (download ps) su Any once (opened x)) (sym q) (record { setup = refl; holds = refl }))
+    (λ q. subst (λ (x : Session). Good (download ps) su Any once (opened x)) (sym q) (record { setup = refl; holds = omega arith }))
+    e in
+    run-always (download ps) su Any once (holds (download ps) su) (opened s) more (all-fit (download ps) s more) g
+  where
+    su : Setup
+    su = setupOf io p (length fw) (length ps)

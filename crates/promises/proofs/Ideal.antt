@@ -1,0 +1,170 @@
+-- There is a fair device: it shows each awaited state at once. So what the promise of finishing supposes can be met, for every k and at every length. Assumes nothing.
+use Prim.Native.Nat.{ℕ, zero, suc, _≤_}
+use native.Mathlib.Nat.{le-refl}
+use native.Mathlib.Omega.{arith}
+use mathlib.Core.Path.{_≡_, refl, ap, subst, sym}
+use mathlib.Core.Logic.{_⊎_, inl, ⊎-elim}
+use mathlib.Core.Bool.{Bool, true, false}
+use mathlib.Core.List.{List, [], _∷_}
+use lib.Dec.{eqb}
+use lib.ListN.{length}
+use Rattle.ground.specs.Pick.{pick}
+use Rattle.ground.proofs.Tests.{picked}
+use Rattle.get_status.specs.Names.{stateOf, stateByte, settled}
+use Rattle.get_status.specs.declared.State.{State}
+use Rattle.get_status.specs.declared.State.the-variants.{DfuIdle, DfuManifest}
+use Rattle.protocol.specs.declared.DfuProtocol.{DfuProtocol}
+use Rattle.session.specs.Machine.{Answer, count, reply, waited, wasReset, Work, waitAfter, told}
+use Rattle.session.specs.Download.{download}
+use Rattle.session.specs.Start.{setupOf}
+use Rattle.session.specs.declared.Command.{Command}
+use Rattle.session.specs.declared.Command.the-variants.{Erase, SetAddress, Block, Empty}
+use Rattle.session.specs.declared.Wait.the-variants.{Pause, Poll}
+use Rattle.session.specs.declared.Phase.{Phase}
+use Rattle.session.specs.declared.Phase.the-variants.{First, Clear, Second, Sent, Waiting, Resetting, Finished, Refused}
+use Rattle.session.specs.declared.Progress.{Progress}
+use Rattle.session.specs.declared.Setup.{Setup}
+use Rattle.session.specs.declared.Session.{Session}
+use Rattle.session.specs.declared.Todo.{Todo}
+use Rattle.session.specs.declared.Todo.the-variants.{Send, End as Ends, Refuse}
+use Rattle.session.specs.declared.start.DfuSansIo.{DfuSansIo}
+use Rattle.promises.specs.Run.{Event, World, opened, tell, wholeOf}
+use Rattle.promises.specs.Fair.{awaited, heeded, heededBy, Fine, allowed, Fair, FairBy}
+use Rattle.promises.specs.Sent.{Begins}
+use Rattle.promises.proofs.Walk.{Claims, Holds, Wished, WaitingAt, ClaimAt, Good, tell-good, either-end}
+use Rattle.promises.proofs.Spends.{Any, any-fits}
+use Rattle.promises.proofs.Started.{started}
+
+abbrev showing : State → Answer
+showing st = reply (0 ∷ 0 ∷ 0 ∷ 0 ∷ stateByte st ∷ 0 ∷ [])
+
+abbrev pub ideal : Phase → Answer
+ideal First = showing DfuIdle
+ideal Clear = count 0
+ideal Second = showing DfuIdle
+ideal (Sent c) = count (wholeOf c)
+ideal (Waiting (Pause b t ms)) = waited
+ideal (Waiting (Poll b t)) = showing t
+ideal Resetting = wasReset
+ideal (Finished e) = waited
+ideal (Refused e) = waited
+
+-- its answers to n asks
+unfoldable pub ideals : Work → Session → ℕ → List Answer
+ideals w s zero = []
+ideals w s (suc n) = ideal (s .phase) ∷ ideals w ((told w s (ideal (s .phase))) .next) n
+
+-- a target that a reply can show
+abbrev Shown : State → Type 0
+Shown t = stateByte (settled (stateOf (stateByte t))) ≡ stateByte t
+
+abbrev sane : Claims
+sane = record {
+  atFirst = λ pr l h. Unit;
+  atClear = λ pr l h. Unit;
+  atSecond = λ pr l h. Unit;
+  atWish = λ pr l h. Unit;
+  pausing = λ b t pr l h. Shown t;
+  looking = λ b t pr l h. Shown t;
+  resetting = λ l h. Unit;
+  finished = λ e l h. Unit;
+  refused = λ e l h. Unit;
+  always = λ l h. Unit;
+}
+
+module _ (w : Work) (su : Setup) where
+  waits : (c : Command) (pr : Progress) (l : ℕ) (h : List Event) → WaitingAt w su Any sane (waitAfter su c) pr l h
+  waits (Erase a) pr l h = refl
+  waits (SetAddress a) pr l h = refl
+  waits (Block n f m) pr l h = refl
+  waits (Empty n) pr l h = picked Shown (su .tolerant) DfuIdle DfuManifest (λ e. refl) (λ e. refl)
+
+  wished : (l : ℕ) (h : List Event) (t : Todo) → Wished w su Any sane l h t
+  wished l h (Send c then) = λ m e. (tt, λ n u. waits c (w .took su then c n) m _)
+  wished l h Ends = either-end w su Any sane l h tt tt
+  wished l h (Refuse e) = tt
+
+  holds : Holds w su Any sane
+  holds = record {
+    first = λ pr l h st v. picked (λ (X : Type 0). X) (eqb st 10) _ _ (λ e. tt) (λ e. tt);
+    clear = λ pr l h v. tt;
+    second = λ pr l h v. tt;
+    wish = λ pr l h v. wished l h (w .next su pr);
+    look = λ b t pr l h v. v;
+    busy = λ b t pr l h v. v;
+    settle = λ b t pr l h v. tt;
+    reset = λ l h v. tt;
+    cutFirst = λ pr l h v. tt;
+    cutClear = λ pr l h v. tt;
+    cutSecond = λ pr l h v. tt;
+    cutWish = λ pr l h v. tt;
+    cutPausing = λ b t pr l h v. tt;
+    cutLooking = λ b t pr l h v. tt;
+    cutResetting = λ l h v. tt;
+    cutFinished = λ e l h v. tt;
+    cutRefused = λ e l h v. tt;
+    deny = λ e l h d v. tt;
+    hear = λ l h st v. tt;
+  }
+
+  fine : (j : ℕ) (p : Phase) (pr : Progress) (l : ℕ) (h : List Event) → ClaimAt w su Any sane p pr l h → Fine j p (ideal p)
+  fine j First pr l h v = (le-refl _, tt)
+  fine j Clear pr l h v = tt
+  fine j Second pr l h v = (le-refl _, refl)
+  fine j (Sent c) pr l h v = le-refl _
+  fine j (Waiting (Pause b t ms)) pr l h v = tt
+  fine j (Waiting (Poll b t)) pr l h v = (le-refl _, inl v)
+  fine j Resetting pr l h v = tt
+  fine j (Finished e) pr l h v = tt
+  fine j (Refused e) pr l h v = tt
+
+  ideals-fair : (k j : ℕ) (x : World) (n : ℕ) → Good w su Any sane x → Fair k j w (x .session) (ideals w (x .session) n)
+  unfolding FairBy ideals
+  ideals-fair k j x zero v = tt
+  ideals-fair k j x (suc n) v =
+      let s : Session = x .session in
+      let a : Answer = ideal (s .phase) in (
+        fine j (s .phase) (s .progress) (s .left) (x .past) (v .holds),
+        ideals-fair k (allowed k j (s .phase)) (tell w x a) n (tell-good w su Any sane holds x a (any-fits (s .phase) a) v),
+      )
+
+-- each of them is awaited
+ideal-awaited : (p : Phase) → awaited p (ideal p) ≡ true
+ideal-awaited First = refl
+ideal-awaited Clear = refl
+ideal-awaited Second = refl
+ideal-awaited (Sent c) = refl
+ideal-awaited (Waiting (Pause b t ms)) = refl
+ideal-awaited (Waiting (Poll b t)) = refl
+ideal-awaited Resetting = refl
+ideal-awaited (Finished e) = refl
+ideal-awaited (Refused e) = refl
+
+ideals-heeded : (w : Work) (s : Session) (n : ℕ) → heeded w s (ideals w s n) ≡ ideals w s n
+unfolding heededBy ideals
+ideals-heeded w s zero = refl
+ideals-heeded w s (suc n) =
+    let more : List Answer = ideals w ((told w s (ideal (s .phase))) .next) n in
+    rw (ideal-awaited (s .phase)) (ap (λ (x : List Answer). ideal (s .phase) ∷ x) (ideals-heeded w ((told w s (ideal (s .phase))) .next) n))
+
+ideals-length : (w : Work) (s : Session) (n : ℕ) → length (ideals w s n) ≡ n
+unfolding ideals
+ideals-length w s zero = refl
+ideals-length w s (suc n) = ap suc (ideals-length w ((told w s (ideal (s .phase))) .next) n)
+
+-- FAIR ANSWERS EXIST, for every k and of every length
+pub fair-answers : (k : ℕ) (io : DfuSansIo) (p : DfuProtocol) (fw ps : List ℕ) (budget : ℕ) (s : Session) (n : ℕ) → Begins io p fw ps budget s
+    → (more : List Answer) × Fair k 0 (download ps) s (heeded (download ps) s more) × (length (heeded (download ps) s more) ≡ n)
+fair-answers k io p fw ps budget s n b =
+    let w : Work = download ps in
+    let su : Setup = setupOf io p (length fw) (length ps) in
+    let (l, e) = started io p fw ps budget s b in
+    let g : Good w su Any sane (opened s) =
+    ⊎-elim
+    (λ q. subst (λ (x : Session). Good w su Any sane (opened x)) (sym q) (record { setup = refl; holds = tt }))
+    (λ q. subst (λ (x : Session). Good w su Any sane (opened x)) (sym q) (record { setup = refl; holds = tt }))
+    e in (
+      ideals w s n,
+      subst (λ (x : List Answer). Fair k 0 w s x) (sym (ideals-heeded w s n)) (ideals-fair w su k 0 (opened s) n g),
+      subst (λ (x : List Answer). length x ≡ n) (sym (ideals-heeded w s n)) (ideals-length w s n),
+    )
