@@ -21,3 +21,4 @@ pub mod Ends
 pub mod Finish
 pub mod Clears
 pub mod Ideal
+pub mod Machines

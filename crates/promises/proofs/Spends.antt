@@ -19,7 +19,7 @@ use Rattle.session.specs.declared.Progress.{Progress}
 use Rattle.session.specs.declared.Session.{Session}
 use Rattle.session.specs.declared.Todo.{Todo}
 use Rattle.session.specs.declared.Todo.the-variants.{Send, End as Ends, Refuse}
-use Rattle.promises.specs.Run.{Event, sends, hears, World, tell, transfers, FitsAt, Fits, FitsBy}
+use Rattle.promises.specs.Run.{Event, sends, hears, World, tell, after, afterBy, transfers, FitsAt, Fits, FitsBy}
 use Rattle.promises.proofs.Walk.{Claims, Holds, Wished, WaitingAt, ClaimAt, Good, tell-good, either-end}
 
 -- what is left and what was sent make up the budget
@@ -146,3 +146,9 @@ pub all-fit : (w : Work) (s : Session) (more : List Answer) → Fits Any w s mor
 unfolding FitsBy
 all-fit w s [] = tt
 all-fit w s (a ∷ more) = (any-fits (s .phase) a, all-fit w ((told w s a) .next) more)
+
+pub run-adds : (w : Work) (x : World) (more : List Answer) (n : ℕ) → x .session .left + length (transfers (x .past)) ≡ n
+    → (after w x more) .session .left + length (transfers ((after w x more) .past)) ≡ n
+unfolding afterBy
+run-adds w x [] n v = v
+run-adds w x (a ∷ more) n v = run-adds w (tell w x a) more n (tell-adds w x a n v)

@@ -1,7 +1,7 @@
 -- What start answers: a session at its first request, one that has finished at once, or none. Assumes nothing.
 use Prim.Native.Nat.{ℕ, zero, suc, _+_, _<_, _≤_}
 use native.Mathlib.Omega.{arith}
-use mathlib.Core.Path.{_≡_, refl}
+use mathlib.Core.Path.{_≡_, refl, sym, subst}
 use mathlib.Core.Logic.{_⊎_, inl, inr}
 use mathlib.Core.Bool.{Bool, true, false}
 use mathlib.Core.List.{List}
@@ -21,6 +21,7 @@ use Rattle.session.specs.declared.start.DfuSansIo.{DfuSansIo}
 use Rattle.session.specs.declared.start.StartError.{StartError}
 use Rattle.session.specs.declared.start.Started.{Started}
 use Rattle.session.specs.declared.start.Started.the-variants.{Session as Begun, Refused}
+use Rattle.promises.specs.Run.{opened, transfers}
 use Rattle.promises.specs.Sent.{Begins}
 
 -- what holds of every refusal, of the finished start and of a begun one, holds of start
@@ -73,3 +74,18 @@ started io p fw ps budget s =
     P x = x ≡ Begun s
         → (l : ℕ) × ((s ≡ mk (setupOf io p (length fw) (length ps)) (fresh (setupOf io p (length fw) (length ps))) l First)
         ⊎ (s ≡ mk (setupOf io p (length fw) (length ps)) (fresh (setupOf io p (length fw) (length ps))) l (Finished Stays)))
+
+-- the budget at the start: what is left, and the first request if there is one
+pub start-adds : (io : DfuSansIo) (p : DfuProtocol) (fw ps : List ℕ) (budget : ℕ) (s : Session) → Begins io p fw ps budget s
+    → s .left + length (transfers ((opened s) .past)) ≡ budget
+unfolding transfers
+start-adds io p fw ps budget s =
+    start-picked P io p (length fw) (length ps) budget (λ e z. absurd (not-begun z))
+    (λ e z. subst Q (sym (begun-is z)) (omega arith))
+    (λ l b e z. subst Q (sym (begun-is z)) (omega (arith, b)))
+  where
+    Q : Session → Type 0
+    Q x = x .left + length (transfers ((opened x) .past)) ≡ budget
+
+    P : Started → Type 0
+    P x = x ≡ Begun s → Q s

@@ -27,7 +27,7 @@ use Rattle.session.specs.declared.start.DfuSansIo.{DfuSansIo}
 use Rattle.promises.specs.Plan.{Dnload}
 use Rattle.promises.specs.Run.{Event, sends, hears, opened, after, inTime, Over, Fits, wholeOf, Full}
 use Rattle.promises.specs.Sent.{onWire, planOf, Begins}
-use Rattle.promises.specs.Whole.{opening, busyAfter, targetAfter, looks, Round, roundOf, rounds, requestOf}
+use Rattle.promises.specs.Whole.{opening, busyAfter, targetAfter, looks, Round, roundOf, rounds, requestOf, Listed}
 use Rattle.promises.proofs.Walk.{Claims, Holds, Wished, WaitingAt, Good, run-over, either-end}
 use Rattle.promises.proofs.Wanted.{left, Heads, heads, full, wanted, fresh-wanted}
 use Rattle.promises.proofs.Onwire.{wanted-plan}
@@ -224,13 +224,6 @@ module _ (ps : List ℕ) (su : Setup) (all : List Command) where
 fresh-good : (ps : List ℕ) (su : Setup) (l : ℕ) → 0 < su .size → Good (download ps) su Full (told ps su (wanted su ps)) (opened (mk su (fresh su) l First))
 unfolding inTime
 fresh-good ps su l k = record { setup = refl; holds = (refl, fresh-wanted ps su k) }
-
--- what a finished run is: the first reply's state, and a round for each request of the plan
-pub record Listed (io : DfuSansIo) (p : DfuProtocol) (fw ps : List ℕ) (past : List Event) : Type 0 where
-  pub shown : ℕ
-  pub all : List Round
-  pub events : inTime past ≡ opening shown ++ rounds (io .descriptor .«manifestation_tolerant») all
-  pub requests : map (onWire fw) (map requestOf all) ≡ planOf io p fw ps
 
 module _ (io : DfuSansIo) (p : DfuProtocol) (fw ps : List ℕ) (budget : ℕ) (s : Session) (more : List Answer) where
   abbrev su : Setup

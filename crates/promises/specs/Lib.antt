@@ -8,4 +8,5 @@ pub mod Sent
 pub mod Whole
 pub mod Fair
 pub mod Finish
+pub mod Machines
 pub mod Starred

@@ -1,13 +1,17 @@
 -- All that happens in a run that finishes, in order: the opening, and a round for each download request.
 use Prim.Native.Nat.{ℕ, zero, suc}
+use mathlib.Core.Path.{_≡_}
 use mathlib.Core.Bool.{Bool}
-use mathlib.Core.List.{List, [], _∷_, _++_}
+use mathlib.Core.List.{List, [], _∷_, _++_, map}
 use lib.Dec.{eqb}
 use Rattle.ground.specs.Pick.{pick}
 use Rattle.session.specs.declared.Command.{Command}
 use Rattle.session.specs.declared.Command.the-variants.{Erase, SetAddress, Block, Empty}
 use Rattle.session.specs.declared.Request.the-variants.{GetStatus, ClearStatus, Command as Commands}
-use Rattle.promises.specs.Run.{Event, sends, hears}
+use Rattle.protocol.specs.declared.DfuProtocol.{DfuProtocol}
+use Rattle.session.specs.declared.start.DfuSansIo.{DfuSansIo}
+use Rattle.promises.specs.Run.{Event, sends, hears, inTime}
+use Rattle.promises.specs.Sent.{onWire, planOf}
 
 -- GETSTATUS; CLRSTATUS if and only if the reply said 10; GETSTATUS, whose reply says 2
 abbrev pub opening : ℕ → List Event
@@ -47,3 +51,10 @@ rounds tolerant (r ∷ rs) = roundOf tolerant r ++ rounds tolerant rs
 
 abbrev pub requestOf : Round → Command
 requestOf r = r .command
+
+-- what a finished run is: the first reply's state, and a round for each request of the plan
+pub record Listed (io : DfuSansIo) (p : DfuProtocol) (fw ps : List ℕ) (past : List Event) : Type 0 where
+  pub shown : ℕ
+  pub all : List Round
+  pub events : inTime past ≡ opening shown ++ rounds (io .descriptor .«manifestation_tolerant») all
+  pub requests : map (onWire fw) (map requestOf all) ≡ planOf io p fw ps

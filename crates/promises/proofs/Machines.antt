@@ -1,0 +1,196 @@
+-- Our machine has the promises, and each machine that is shut out lacks one. Assumes nothing.
+use Prim.Native.Nat.{ℕ, zero, suc, _+_, _*_, _<_, _≤_}
+use native.Mathlib.Omega.{arith}
+use mathlib.Core.Path.{_≡_, refl, ap, sym, subst, _∙_}
+use mathlib.Core.Logic.{⊎-elim}
+use mathlib.Core.Bool.{Bool, true, false, true≢false}
+use mathlib.Core.List.{List, [], _∷_, _++_, map}
+use lib.ListN.{length, getD, length-append, length-map}
+use Rattle.ground.specs.Bytes.{littleEndian, field, bytesLow}
+use Rattle.protocol.specs.declared.DfuProtocol.{DfuProtocol}
+use Rattle.protocol.specs.declared.DfuProtocol.the-variants.{Dfu, Dfuse}
+use Rattle.session.specs.Machine.{Answer, count, reply, waited, mk, onFirst, onSecond, onPoll, told}
+use Rattle.session.specs.Download.{download, covering, eraseNext, writeNext, nextOf, tookOf}
+use Rattle.session.specs.Start.{newIo, setupOf, fresh, begunOf, beginOf}
+use Rattle.session.specs.declared.Request.the-variants.{GetStatus}
+use Rattle.session.specs.declared.End.{End}
+use Rattle.session.specs.declared.Phase.the-variants.{First, Finished}
+use Rattle.session.specs.declared.Session.{Session}
+use Rattle.session.specs.declared.start.DfuSansIo.{DfuSansIo}
+use Rattle.session.specs.declared.start.StartError.{StartError}
+use Rattle.session.specs.declared.start.Started.the-variants.{Session as Begun, Refused as Unbegun}
+use Rattle.promises.specs.Plan.{Dnload, erasing, several, blockCount, blockOf, plan}
+use Rattle.promises.specs.Run.{Event, sends, hears, opened, afterBy, inTime, transfers, commanded, cleared, FitsBy}
+use Rattle.promises.specs.Sent.{onWire, planOf}
+use Rattle.promises.specs.Whole.{opening, busyAfter, targetAfter, looks, Round, roundOf, rounds, requestOf, Listed}
+use Rattle.promises.specs.Fair.{heededBy, FairBy, Ready}
+use Rattle.promises.specs.Machines.{ours, SendsThePlan, LeadsThePlan, ListsAll, Starts, Finishing, Sufficing, Spends, refusing, fixed, idle, hasty, blind, inventive, numberedFromThree, onePageMore, addressTwice}
+use Rattle.promises.proofs.Started.{start-adds}
+use Rattle.promises.proofs.Finishes.{finished-sends-the-plan, every-run-leads-the-plan}
+use Rattle.promises.proofs.Whole.{finished-lists}
+use Rattle.promises.proofs.Spends.{run-adds}
+use Rattle.promises.proofs.Clears.{clears-once}
+use Rattle.promises.proofs.Finish.{starts, finishes}
+
+-- OURS HAS THEM
+pub ours-sends : SendsThePlan ours
+ours-sends io p fw ps budget s more h k b u o = finished-sends-the-plan io p fw ps budget s more h k b u o
+
+pub ours-leads : LeadsThePlan ours
+ours-leads io p fw ps budget s more h k b u = every-run-leads-the-plan io p fw ps budget s more h k b u
+
+pub ours-lists : ListsAll ours
+ours-lists io p fw ps budget s more h k b u o = finished-lists io p fw ps budget s more h k b u o
+
+pub ours-starts : Starts ours
+ours-starts io p fw ps zero r h = absurd (omega arith)
+ours-starts io p fw ps (suc l) r h =
+    (mk (setupOf io p (length fw) (length ps)) (fresh (setupOf io p (length fw) (length ps))) l First, starts io p fw ps r l)
+
+pub ours-finishes : Finishing ours
+ours-finishes io p fw ps k budget s more r b f m = finishes io p fw ps k budget s more r b f m
+
+pub ours-suffices : Sufficing ours
+ours-suffices io p fw ps k budget s more r b f m =
+    finishes io p fw ps k budget s more r b f (omega (arith, clears-once io p fw ps budget s more b, m))
+
+pub ours-spends : Spends ours
+ours-spends io p fw ps budget s more b = run-adds (download ps) (opened s) more budget (start-adds io p fw ps budget s b)
+
+-- two small updates: one byte, plain, and one byte to two pages of one byte
+abbrev sample : DfuSansIo
+sample =
+    newIo
+    (record {
+      «can_download» = true;
+      «can_upload» = true;
+      «manifestation_tolerant» = true;
+      «will_detach» = false;
+      «detach_timeout» = 0;
+      «transfer_size» = 8;
+      «dfu_version» = record { 0 = 1; 1 = 0x10 };
+    })
+
+ready : Ready sample Dfu (7 ∷ []) []
+ready = record { some = omega arith; short = omega arith; sized = omega arith; few = λ e. absurd (true≢false (sym e)); covered = λ e. absurd (true≢false (sym e)); below = λ e. absurd (true≢false (sym e)) }
+
+abbrev begunPlain : Session
+begunPlain = mk (setupOf sample Dfu 1 0) (fresh (setupOf sample Dfu 1 0)) 99 First
+
+abbrev begunDfuse : Session
+begunDfuse = mk (setupOf sample (Dfuse 0) 1 2) (fresh (setupOf sample (Dfuse 0) 1 2)) 99 First
+
+-- a reply with a state; a request that is taken whole, waited for and answered
+abbrev shows : ℕ → Answer
+shows b = reply (0 ∷ 0 ∷ 0 ∷ 0 ∷ b ∷ 0 ∷ [])
+
+abbrev round : ℕ → ℕ → List Answer → List Answer
+round n b more = count n ∷ waited ∷ shows b ∷ more
+
+not-begun : {e : StartError} {s : Session} → Unbegun e ≡ Begun s → ⊥
+not-begun e = let z : _≡_ {A = ℕ} 0 1 = cc in omega arith
+
+not-over : {e : End} → First ≡ Finished e → ⊥
+not-over e = let z : _≡_ {A = ℕ} 0 1 = cc in omega arith
+
+-- ALWAYS REFUSING doesn't start
+pub refusing-shut-out : Starts refusing → ⊥
+refusing-shut-out f = let (s, e) = f sample Dfu (7 ∷ []) [] 100 ready (omega arith) in not-begun e
+
+-- ten replies, to which neither of these two moves
+abbrev ten : List Answer
+ten = shows 2 ∷ shows 2 ∷ shows 2 ∷ shows 2 ∷ shows 2 ∷ shows 2 ∷ shows 2 ∷ shows 2 ∷ shows 2 ∷ shows 2 ∷ []
+
+-- ONE FIXED ANSWER doesn't finish
+pub fixed-shut-out : Finishing fixed → ⊥
+unfolding beginOf begunOf afterBy heededBy FairBy cleared blockCount
+fixed-shut-out f =
+    let six : 6 ≤ 6 = omega arith in
+    let fair : FairBy 0 0 (fixed .told []) begunPlain ten = ((six, tt), ((six, tt), ((six, tt), ((six, tt), ((six, tt), ((six, tt), ((six, tt), ((six, tt), ((six, tt), ((six, tt), tt)))))))))) in
+    not-over ((f sample Dfu (7 ∷ []) [] 0 100 begunPlain ten ready refl fair (omega arith)) .done (omega arith))
+
+-- DOING NOTHING doesn't finish either
+pub idle-shut-out : Finishing idle → ⊥
+unfolding beginOf begunOf afterBy heededBy FairBy cleared blockCount
+idle-shut-out f =
+    let six : 6 ≤ 6 = omega arith in
+    let fair : FairBy 0 0 (idle .told []) begunPlain ten = ((six, tt), ((six, tt), ((six, tt), ((six, tt), ((six, tt), ((six, tt), ((six, tt), ((six, tt), ((six, tt), ((six, tt), tt)))))))))) in
+    not-over ((f sample Dfu (7 ∷ []) [] 0 100 begunPlain ten ready refl fair (omega arith)) .done (omega arith))
+
+-- FINISHING AT THE FIRST CALL has not sent the plan
+pub hasty-shut-out : SendsThePlan hasty → ⊥
+unfolding beginOf begunOf afterBy FitsBy commanded plan several blockCount
+hasty-shut-out f =
+    let e : [] ≡ planOf sample Dfu (7 ∷ []) [] = f sample Dfu (7 ∷ []) [] 100 begunPlain (waited ∷ []) (omega arith) (omega arith) refl (tt, tt) tt in
+    let n : _≡_ {A = ℕ} 0 2 = ap (λ (x : List Dnload). length x) e in
+    omega (arith, n)
+
+-- AN INVENTED SPEND isn't the length of the list
+pub inventive-shut-out : Spends inventive → ⊥
+unfolding beginOf begunOf afterBy transfers told
+inventive-shut-out f =
+    let e : _≡_ {A = ℕ} 1 100 = f sample Dfu (7 ∷ []) [] 100 begunPlain (waited ∷ []) refl in
+    omega (arith, e)
+
+-- BLOCKS WITHOUT ASKING FOR STATUS aren't the whole list: six things happen, and two rounds alone are six
+rounds-long : (t : Bool) (rs : List Round) → 3 * length rs ≤ length (rounds t rs)
+unfolding rounds
+rounds-long t [] = omega arith
+rounds-long t (r ∷ rs) =
+    omega (
+      arith,
+      rounds-long t rs,
+      length-append (roundOf t r) (rounds t rs),
+      length-append (looks (busyAfter (r .command)) (r .busy)) (sends GetStatus ∷ hears (targetAfter t (r .command)) ∷ []),
+    )
+
+pub blind-shut-out : ListsAll blind → ⊥
+unfolding beginOf begunOf afterBy FitsBy told onFirst onSecond nextOf writeNext tookOf field littleEndian inTime plan several blockCount
+blind-shut-out f =
+    let v : Listed sample Dfu (7 ∷ []) [] _ =
+    f sample Dfu (7 ∷ []) [] 100 begunPlain (shows 2 ∷ shows 2 ∷ count 1 ∷ count 0 ∷ []) (omega arith) (omega arith) refl
+    (tt, (tt, (omega arith, (omega arith, tt)))) tt in
+    let n : length (v .all) ≡ 2 =
+    sym (length-map (v .all) requestOf) ∙ sym (length-map (map requestOf (v .all)) (onWire (7 ∷ []))) ∙ ap (λ (x : List Dnload). length x) (v .requests) in
+    let m : 6 ≡ length (opening (v .shown) ++ rounds true (v .all)) = ap (λ (x : List Event). length x) (v .events) in
+    omega (arith, n, m, rounds-long true (v .all), length-append (opening (v .shown)) (rounds true (v .all)))
+
+-- the answers to an erase, the address, the block and the empty one, with more of the first kind before
+abbrev dfuseAnswers : List Answer → List Answer
+dfuseAnswers more = shows 2 ∷ shows 2 ∷ round 5 5 more
+
+abbrev lastAnswers : List Answer
+lastAnswers = round 5 5 (round 1 5 (round 0 2 []))
+
+numbersOf : List Dnload → List ℕ
+numbersOf l = map (λ (x : Dnload). x .setup .wValue) l
+
+-- THE FIRST NUMBER 3 isn't the plan's
+pub numbered-from-three-shut-out : SendsThePlan numberedFromThree → ⊥
+unfolding beginOf begunOf afterBy FitsBy commanded told onFirst onSecond onPoll eraseNext writeNext nextOf tookOf field littleEndian bytesLow covering plan erasing several blockOf blockCount numbersOf
+numbered-from-three-shut-out f =
+    let e =
+    f sample (Dfuse 0) (7 ∷ []) (1 ∷ 1 ∷ []) 100 _ (dfuseAnswers lastAnswers) (omega arith) (omega arith) refl
+    (tt, (tt, (omega arith, (tt, (tt, (omega arith, (tt, (tt, (omega arith, (tt, (tt, (omega arith, (tt, (tt, tt)))))))))))))) tt in
+    let n : _≡_ {A = ℕ} 3 2 = ap (λ (x : List Dnload). getD (numbersOf x) 2 0) e in
+    omega (arith, n)
+
+-- ONE PAGE MORE isn't the plan
+pub one-page-more-shut-out : SendsThePlan onePageMore → ⊥
+unfolding beginOf begunOf afterBy FitsBy commanded told onFirst onSecond onPoll eraseNext writeNext nextOf tookOf field littleEndian bytesLow covering plan erasing several blockOf blockCount
+one-page-more-shut-out f =
+    let e =
+    f sample (Dfuse 0) (7 ∷ []) (1 ∷ 1 ∷ []) 100 begunDfuse (dfuseAnswers (round 5 5 lastAnswers)) (omega arith) (omega arith) refl
+    (tt, (tt, (omega arith, (tt, (tt, (omega arith, (tt, (tt, (omega arith, (tt, (tt, (omega arith, (tt, (tt, (omega arith, (tt, (tt, tt))))))))))))))))) tt in
+    let n : _≡_ {A = ℕ} 5 4 = ap (λ (x : List Dnload). length x) e in
+    omega (arith, n)
+
+-- THE ADDRESS SET TWICE isn't either
+pub address-twice-shut-out : SendsThePlan addressTwice → ⊥
+unfolding beginOf begunOf afterBy FitsBy commanded told onFirst onSecond onPoll eraseNext writeNext nextOf tookOf field littleEndian bytesLow covering plan erasing several blockOf blockCount
+address-twice-shut-out f =
+    let e =
+    f sample (Dfuse 0) (7 ∷ []) (1 ∷ 1 ∷ []) 100 begunDfuse (dfuseAnswers (round 5 5 lastAnswers)) (omega arith) (omega arith) refl
+    (tt, (tt, (omega arith, (tt, (tt, (omega arith, (tt, (tt, (omega arith, (tt, (tt, (omega arith, (tt, (tt, (omega arith, (tt, (tt, tt))))))))))))))))) tt in
+    let n : _≡_ {A = ℕ} 5 4 = ap (λ (x : List Dnload). length x) e in
+    omega (arith, n)

@@ -1,0 +1,202 @@
+-- The promises as predicates on a machine, and machines that each lack one.
+use Prim.Native.Nat.{ℕ, zero, suc, _+_, _*_, _<_, _≤_}
+use mathlib.Core.Path.{_≡_}
+use mathlib.Core.Bool.{Bool, true, false}
+use mathlib.Core.List.{List, [], _∷_, _++_, map}
+use lib.Dec.{ltb}
+use lib.ListN.{length}
+use Rattle.ground.specs.Pick.{pick}
+use Rattle.protocol.specs.declared.DfuProtocol.{DfuProtocol}
+use Rattle.session.specs.Machine.{Answer, count, reply, waited, wasReset, failed, Work, mk, proceed, go, stay, told}
+use Rattle.session.specs.Download.{download, addressed, eraseNext, nextOf, tookOf}
+use Rattle.session.specs.Start.{beginOf}
+use Rattle.session.specs.declared.Command.the-variants.{SetAddress}
+use Rattle.session.specs.declared.Request.the-variants.{GetStatus}
+use Rattle.session.specs.declared.Error.the-variants.{NotAwaited}
+use Rattle.session.specs.declared.End.the-variants.{Stays}
+use Rattle.session.specs.declared.Stage.{Stage}
+use Rattle.session.specs.declared.Stage.the-variants.{Erasing, Writing, Ending}
+use Rattle.session.specs.declared.Phase.{Phase}
+use Rattle.session.specs.declared.Phase.the-variants.{First, Clear, Second, Sent, Waiting, Resetting, Finished, Refused}
+use Rattle.session.specs.declared.Setup.{Setup}
+use Rattle.session.specs.declared.Progress.{Progress}
+use Rattle.session.specs.declared.Session.{Session}
+use Rattle.session.specs.declared.Todo.{Todo}
+use Rattle.session.specs.declared.Todo.the-variants.{Send}
+use Rattle.session.specs.declared.Ask.the-variants.{Transfer}
+use Rattle.session.specs.declared.Step.{Step}
+use Rattle.session.specs.declared.start.DfuSansIo.{DfuSansIo}
+use Rattle.session.specs.declared.start.StartError.the-variants.{NoSpaceLeft}
+use Rattle.session.specs.declared.start.Started.{Started}
+use Rattle.session.specs.declared.start.Started.the-variants.{Session as Begun, Refused as Unbegun}
+use Rattle.promises.specs.Plan.{Dnload}
+use Rattle.promises.specs.Run.{opened, afterBy, transfers, commanded, cleared, Over, FitsBy, Full}
+use Rattle.promises.specs.Sent.{onWire, planOf}
+use Rattle.promises.specs.Whole.{Listed}
+use Rattle.promises.specs.Fair.{heededBy, FairBy, Ready, requestsOf, bound}
+use Rattle.promises.specs.Finish.{FinishesBy}
+
+-- how it starts, from start's own numbers, and how it is told an answer, with the pages that are lent
+pub record Machine : Type 0 where
+  pub start : DfuSansIo → DfuProtocol → ℕ → ℕ → ℕ → Started
+  pub told : List ℕ → Session → Answer → Step
+
+abbrev pub ours : Machine
+ours = record { start = beginOf; told = λ ps s a. told (download ps) s a }
+
+abbrev pub Began : Machine → DfuSansIo → DfuProtocol → List ℕ → List ℕ → ℕ → Session → Type 0
+Began m io p fw ps budget s = m .start io p (length fw) (length ps) budget ≡ Begun s
+
+-- 2: a finished run with full writes has sent the plan, and every run a leading part of it
+abbrev pub SendsThePlan : Machine → Type 0
+SendsThePlan m =
+    (io : DfuSansIo) (p : DfuProtocol) (fw ps : List ℕ) (budget : ℕ) (s : Session) (more : List Answer)
+    → 0 < length fw → 0 < io .descriptor .«transfer_size» → Began m io p fw ps budget s → FitsBy Full (m .told ps) s more
+    → Over ((afterBy (m .told ps) (opened s) more) .session .phase)
+    → map (onWire fw) (commanded ((afterBy (m .told ps) (opened s) more) .past)) ≡ planOf io p fw ps
+
+abbrev pub LeadsThePlan : Machine → Type 0
+LeadsThePlan m =
+    (io : DfuSansIo) (p : DfuProtocol) (fw ps : List ℕ) (budget : ℕ) (s : Session) (more : List Answer)
+    → 0 < length fw → 0 < io .descriptor .«transfer_size» → Began m io p fw ps budget s → FitsBy Full (m .told ps) s more
+    → (rest : List Dnload) × (map (onWire fw) (commanded ((afterBy (m .told ps) (opened s) more) .past)) ++ rest ≡ planOf io p fw ps)
+
+-- 3: all that happens in a finished run
+abbrev pub ListsAll : Machine → Type 0
+ListsAll m =
+    (io : DfuSansIo) (p : DfuProtocol) (fw ps : List ℕ) (budget : ℕ) (s : Session) (more : List Answer)
+    → 0 < length fw → 0 < io .descriptor .«transfer_size» → Began m io p fw ps budget s → FitsBy Full (m .told ps) s more
+    → Over ((afterBy (m .told ps) (opened s) more) .session .phase) → Listed io p fw ps ((afterBy (m .told ps) (opened s) more) .past)
+
+-- 4: it starts, and with a fair device and the budget it finishes
+abbrev pub Starts : Machine → Type 0
+Starts m = (io : DfuSansIo) (p : DfuProtocol) (fw ps : List ℕ) (budget : ℕ) → Ready io p fw ps → 0 < budget → (s : Session) × Began m io p fw ps budget s
+
+abbrev pub Finishing : Machine → Type 0
+Finishing m =
+    (io : DfuSansIo) (p : DfuProtocol) (fw ps : List ℕ) (k budget : ℕ) (s : Session) (more : List Answer) → Ready io p fw ps → Began m io p fw ps budget s
+    → FairBy k 0 (m .told ps) s (heededBy (m .told ps) s more)
+    → bound k (cleared ((afterBy (m .told ps) (opened s) more) .past)) (requestsOf io p fw ps) ≤ budget → FinishesBy (m .told ps) k io p fw ps s more
+
+-- 5: 3 + (P + B + 2)(k + 2) always suffices
+abbrev pub Sufficing : Machine → Type 0
+Sufficing m =
+    (io : DfuSansIo) (p : DfuProtocol) (fw ps : List ℕ) (k budget : ℕ) (s : Session) (more : List Answer) → Ready io p fw ps → Began m io p fw ps budget s
+    → FairBy k 0 (m .told ps) s (heededBy (m .told ps) s more) → 3 + requestsOf io p fw ps * (k + 2) ≤ budget → FinishesBy (m .told ps) k io p fw ps s more
+
+-- 6: what is spent is the length of the transfer list
+abbrev pub Spends : Machine → Type 0
+Spends m =
+    (io : DfuSansIo) (p : DfuProtocol) (fw ps : List ℕ) (budget : ℕ) (s : Session) (more : List Answer) → Began m io p fw ps budget s
+    → (afterBy (m .told ps) (opened s) more) .session .left + length (transfers ((afterBy (m .told ps) (opened s) more) .past)) ≡ budget
+
+-- always refusing
+abbrev pub refusing : Machine
+refusing = record { start = λ io p n pages budget. Unbegun NoSpaceLeft; told = ours .told }
+
+-- one fixed answer
+abbrev pub fixed : Machine
+fixed = record { start = beginOf; told = λ ps s a. record { next = s; says = Transfer GetStatus } }
+
+-- doing nothing
+abbrev pub idle : Machine
+idle = record { start = beginOf; told = λ ps s a. stay s NotAwaited }
+
+-- finishing at the first call
+abbrev pub hasty : Machine
+hasty = record { start = beginOf; told = λ ps s a. go (mk (s .setup) (s .progress) (s .left) (Finished Stays)) }
+
+-- blocks without asking for status: a count leads to the next request at once
+abbrev pub onCount : List ℕ → Setup → Progress → ℕ → Progress → Session
+onCount ps su pr l then = proceed su then l (nextOf ps su then)
+
+abbrev pub blindAt : List ℕ → Session → Phase → Answer → Step
+blindAt ps s (Sent c) (count n) = go (onCount ps (s .setup) (s .progress) (s .left) (tookOf (s .setup) (s .progress) c n))
+blindAt ps s (Sent c) (reply bs) = told (download ps) s (reply bs)
+blindAt ps s (Sent c) waited = told (download ps) s waited
+blindAt ps s (Sent c) wasReset = told (download ps) s wasReset
+blindAt ps s (Sent c) failed = told (download ps) s failed
+blindAt ps s First a = told (download ps) s a
+blindAt ps s Clear a = told (download ps) s a
+blindAt ps s Second a = told (download ps) s a
+blindAt ps s (Waiting x) a = told (download ps) s a
+blindAt ps s Resetting a = told (download ps) s a
+blindAt ps s (Finished e) a = told (download ps) s a
+blindAt ps s (Refused e) a = told (download ps) s a
+
+abbrev pub blind : Machine
+blind = record { start = beginOf; told = λ ps s a. blindAt ps s (s .phase) a }
+
+-- an invented spend: nothing is ever left
+abbrev pub spentAll : Step → Step
+spentAll x = record { next = mk (x .next .setup) (x .next .progress) 0 (x .next .phase); says = x .says }
+
+abbrev pub inventive : Machine
+inventive = record { start = beginOf; told = λ ps s a. spentAll (told (download ps) s a) }
+
+-- the first number 3
+abbrev pub fromThree : Started → Started
+fromThree (Begun s) =
+    Begun
+    (record {
+      setup = s .setup;
+      progress = record {
+        stage = s .progress .stage;
+        erased = s .progress .erased;
+        page = s .progress .page;
+        number = 3;
+        place = s .progress .place;
+        copied = s .progress .copied;
+      };
+      left = s .left;
+      phase = s .phase;
+    })
+fromThree (Unbegun e) = Unbegun e
+
+abbrev pub numberedFromThree : Machine
+numberedFromThree = record { start = λ io p n pages budget. fromThree (beginOf io p n pages budget); told = ours .told }
+
+-- one page more: the erases go on to one byte past the target
+abbrev pub longer : Setup → Setup
+longer su = record {
+  dfuse = su .dfuse;
+  address = su .address;
+  length = su .length + 1;
+  pages = su .pages;
+  size = su .size;
+  tolerant = su .tolerant;
+  detach = su .detach;
+}
+
+abbrev pub onePageMoreAt : Stage → List ℕ → Setup → Progress → Todo
+onePageMoreAt Erasing ps su pr = eraseNext ps (longer su) pr
+onePageMoreAt Writing ps su pr = nextOf ps su pr
+onePageMoreAt Ending ps su pr = nextOf ps su pr
+
+abbrev pub onePageMore : Machine
+onePageMore = record {
+  start = beginOf;
+  told = λ ps s a. told (record { next = λ su pr. onePageMoreAt (pr .stage) ps su pr; took = tookOf }) s a;
+}
+
+-- the address set twice: once more before the first block, which the page index marks
+abbrev pub marked : Progress → Progress
+marked pr = record {
+  stage = Writing;
+  erased = pr .erased;
+  page = 1000;
+  number = pr .number;
+  place = pr .place;
+  copied = pr .copied;
+}
+
+abbrev pub twiceAt : Stage → List ℕ → Setup → Progress → Todo
+twiceAt Erasing ps su pr = nextOf ps su pr
+twiceAt Writing ps su pr = pick (ltb (pr .page) 1000) (Send (SetAddress (su .address)) (marked pr)) (nextOf ps su pr)
+twiceAt Ending ps su pr = nextOf ps su pr
+
+abbrev pub addressTwice : Machine
+addressTwice = record {
+  start = beginOf;
+  told = λ ps s a. told (record { next = λ su pr. twiceAt (pr .stage) ps su pr; took = tookOf }) s a;
+}
