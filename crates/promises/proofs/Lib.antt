@@ -22,3 +22,4 @@ pub mod Finish
 pub mod Clears
 pub mod Ideal
 pub mod Machines
+pub mod Reached

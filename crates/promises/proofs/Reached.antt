@@ -1,0 +1,92 @@
+-- The bound is reached: a fair run with a clear and two busy replies to each wait spends exactly it, and with one less it is refused by 23. Assumes nothing.
+use Prim.Native.Nat.{ℕ, _≤_, _<_}
+use native.Mathlib.Omega.{arith}
+use mathlib.Core.Path.{_≡_, refl, _∙_}
+use mathlib.Core.Logic.{inl, inr}
+use mathlib.Core.Bool.{true, false}
+use mathlib.Core.List.{List, [], _∷_}
+use lib.ListN.{length}
+use Rattle.ground.specs.Bytes.{littleEndian, field}
+use Rattle.protocol.specs.declared.DfuProtocol.the-variants.{Dfuse}
+use Rattle.session.specs.Machine.{Answer, count, reply, waited, mk, onFirst, onSecond, onPoll, told}
+use Rattle.session.specs.Download.{download, covering, eraseNext, writeNext, nextOf, tookOf}
+use Rattle.session.specs.Start.{newIo, setupOf, fresh, begunOf, beginOf}
+use Rattle.session.specs.declared.Error.the-variants.{BudgetSpent}
+use Rattle.session.specs.declared.End.the-variants.{Stays}
+use Rattle.session.specs.declared.Phase.the-variants.{First, Finished, Refused}
+use Rattle.session.specs.declared.Session.{Session}
+use Rattle.session.specs.declared.start.DfuSansIo.{DfuSansIo}
+use Rattle.promises.specs.Plan.{blockCount}
+use Rattle.promises.specs.Run.{opened, after, afterBy, transfers, cleared}
+use Rattle.promises.specs.Sent.{Begins}
+use Rattle.promises.specs.Fair.{Fair, FairBy, requestsOf, bound}
+
+-- a tolerant device, one byte, two pages of one byte
+abbrev counter : DfuSansIo
+counter =
+    newIo
+    (record {
+      «can_download» = true;
+      «can_upload» = true;
+      «manifestation_tolerant» = true;
+      «will_detach» = false;
+      «detach_timeout» = 0;
+      «transfer_size» = 8;
+      «dfu_version» = record { 0 = 1; 1 = 0x1a };
+    })
+
+abbrev pages : List ℕ
+pages = 1 ∷ 1 ∷ []
+
+abbrev begunWith : ℕ → Session
+begunWith l = mk (setupOf counter (Dfuse 0) 1 2) (fresh (setupOf counter (Dfuse 0) 1 2)) l First
+
+abbrev shows : ℕ → Answer
+shows b = reply (0 ∷ 0 ∷ 0 ∷ 0 ∷ b ∷ 0 ∷ [])
+
+-- a request, two busy replies, the target
+abbrev slow : ℕ → ℕ → ℕ → List Answer → List Answer
+slow n busy target more = count n ∷ waited ∷ shows busy ∷ waited ∷ shows busy ∷ waited ∷ shows target ∷ more
+
+abbrev answers : List Answer
+answers = shows 10 ∷ count 0 ∷ shows 2 ∷ slow 5 4 5 (slow 5 4 5 (slow 1 4 5 (slow 0 7 2 [])))
+
+pub reached-begins : Begins counter (Dfuse 0) (7 ∷ []) pages 19 (begunWith 18) × Begins counter (Dfuse 0) (7 ∷ []) pages 18 (begunWith 17)
+unfolding beginOf begunOf
+reached-begins = (refl, refl)
+
+pub reached-fair : Fair 2 0 (download pages) (begunWith 18) answers
+unfolding FairBy told onFirst onSecond onPoll eraseNext writeNext nextOf tookOf field littleEndian
+reached-fair =
+    let six : 6 ≤ 6 = omega arith in
+    let n : 0 ≤ 5 = omega arith in
+    (
+      (six, tt), (
+      tt, (
+      (six, refl), (
+      n, (tt, ((six, inr (refl, omega arith)), (tt, ((six, inr (refl, omega arith)), (tt, ((six, inl refl), (
+      n, (tt, ((six, inr (refl, omega arith)), (tt, ((six, inr (refl, omega arith)), (tt, ((six, inl refl), (
+      omega arith, (tt, ((six, inr (refl, omega arith)), (tt, ((six, inr (refl, omega arith)), (tt, ((six, inl refl), (
+      omega arith, (tt, ((six, inr (refl, omega arith)), (tt, ((six, inr (refl, omega arith)), (tt, ((six, inl refl), tt))))))))))))))))))))))))))))))
+    )
+
+-- EXACTLY THE BOUND, with one clear
+pub bound-reached : length (transfers ((after (download pages) (opened (begunWith 18)) answers) .past)) ≡ bound 2 1 (requestsOf counter (Dfuse 0) (7 ∷ []) pages)
+unfolding afterBy transfers told onFirst onSecond onPoll eraseNext writeNext nextOf tookOf field littleEndian covering blockCount
+bound-reached =
+    let spent : length (transfers ((after (download pages) (opened (begunWith 18)) answers) .past)) ≡ 19 = refl in
+    let most : 19 ≡ bound 2 1 (requestsOf counter (Dfuse 0) (7 ∷ []) pages) = refl in
+    spent ∙ most
+
+pub reached-clears : cleared ((after (download pages) (opened (begunWith 18)) answers) .past) ≡ 1
+unfolding afterBy cleared told onFirst onSecond onPoll eraseNext writeNext nextOf tookOf field littleEndian
+reached-clears = refl
+
+pub reached-finishes : (after (download pages) (opened (begunWith 18)) answers) .session .phase ≡ Finished Stays
+unfolding afterBy told onFirst onSecond onPoll eraseNext writeNext nextOf tookOf field littleEndian
+reached-finishes = refl
+
+-- ONE LESS is 23
+pub one-less-is-spent : (after (download pages) (opened (begunWith 17)) answers) .session .phase ≡ Refused BudgetSpent
+unfolding afterBy told onFirst onSecond onPoll eraseNext writeNext nextOf tookOf field littleEndian
+one-less-is-spent = refl
