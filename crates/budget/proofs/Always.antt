@@ -1,12 +1,10 @@
 -- A budget of `enough` always suffices, and the call is pinned down. Assumes nothing.
-use Prim.Native.Nat.{ℕ, suc, _+_, _*_, _^_, _<_, _≤_, zero}
+use Prim.Native.Nat.{ℕ, suc, _^_, _≤_, zero}
 use native.Mathlib.Omega.{arith}
-use mathlib.Core.Path.{_≡_, refl, sym, _∙_}
-use mathlib.Core.Bool.{Bool}
+use mathlib.Core.Path.{_≡_, sym, _∙_}
 use mathlib.Core.List.{List}
 use lib.Dec.{ltb}
 use lib.ListN.{length}
-use Rattle.ground.specs.Pick.{pick}
 use Rattle.ground.proofs.Tests.{picked}
 use Rattle.protocol.specs.declared.DfuProtocol.{DfuProtocol}
 use Rattle.session.specs.Machine.{Answer, mk}
@@ -21,7 +19,7 @@ use Rattle.promises.specs.Fair.{heeded, Fair, Ready, requestsOf}
 use Rattle.promises.specs.Finish.{Finishes}
 use Rattle.promises.proofs.Clears.{clears-once}
 use Rattle.promises.proofs.Finish.{starts, finishes}
-use Rattle.budget.specs.Enough.{enoughFor, counted, enoughOf}
+use Rattle.budget.specs.Enough.{enoughFor, enoughOf}
 use Rattle.budget.specs.declared.Suffices.{Suffices}
 use Rattle.budget.specs.declared.Suffices.the-variants.{Budget, Never}
 use Rattle.budget.proofs.enough.Kinds as enough-kinds

@@ -1,28 +1,22 @@
 -- A run over the calls is the run of the definitions; what is lent in between changes nothing of the spend or of an end. Assumes nothing.
-use Prim.Native.Nat.{ℕ, zero, suc, _+_, _≤_}
-use native.Mathlib.Omega.{arith}
+use Prim.Native.Nat.{ℕ, _+_}
 use mathlib.Core.Path.{_≡_, refl, ap, sym, subst, _∙_}
-use mathlib.Core.Bool.{Bool, true, false, true≢false}
+use mathlib.Core.Bool.{Bool, false, true≢false}
 use mathlib.Core.List.{List, [], _∷_, _++_}
-use lib.Dec.{eqb, ltb}
 use lib.ListN.{length}
-use borrow.Author.Tests.{eq-eqb, le-ltb}
 use Rattle.ground.specs.Pick.{pick}
 use Rattle.ground.proofs.Tests.{picked}
-use Rattle.session.specs.Machine.{Answer, Work, mk, asksAt, go, toldAt, told}
+use Rattle.session.specs.Machine.{asksAt, told}
 use Rattle.session.specs.Download.{download, liveb, asAtStart, guardOf, through, called, filledBy, Outcome, out, filled, callOf}
 use Rattle.session.specs.declared.Error.the-variants.{NotAsAtStart}
 use Rattle.session.specs.declared.Guard.{Guard}
 use Rattle.session.specs.declared.Guard.the-variants.{Open, Shut}
 use Rattle.session.specs.declared.Phase.{Phase}
 use Rattle.session.specs.declared.Phase.the-variants.{First, Clear, Second, Sent, Waiting, Resetting, Finished, Refused}
-use Rattle.session.specs.declared.Setup.{Setup}
 use Rattle.session.specs.declared.Session.{Session}
-use Rattle.session.specs.declared.Ask.{Ask}
 use Rattle.session.specs.declared.Ask.the-variants.{Refused as SaysNo}
-use Rattle.session.specs.declared.Step.{Step}
-use Rattle.promises.specs.Run.{Event, sentBy, heardAt, World, tell, after, transfers}
-use Rattle.promises.specs.Calls.{Call, outcome, heardThrough, call, calls, Lends, AllLend, answers, Allowed, Repeats}
+use Rattle.promises.specs.Run.{Event, sentBy, World, tell, transfers}
+use Rattle.promises.specs.Calls.{Call, outcome, heardThrough, call, calls, Allowed, Repeats}
 use Rattle.promises.proofs.Spends.{tell-adds}
 
 -- an ended session asks for nothing and fills nothing

@@ -1,19 +1,16 @@
 -- How a run ends: the device stays if it is tolerant or will detach, else after the reset. Assumes nothing.
-use Prim.Native.Nat.{ℕ, suc, _<_}
-use mathlib.Core.Path.{_≡_, refl, ap, sym, subst, _∙_}
+use Prim.Native.Nat.{ℕ}
+use mathlib.Core.Path.{_≡_, refl, ap, _∙_}
 use mathlib.Core.Bool.{Bool, true, false}
 use mathlib.Core.List.{List}
 use lib.Dec.{eqb}
-use lib.ListN.{length}
 use Rattle.ground.specs.Pick.{pick}
 use Rattle.ground.proofs.Tests.{picked}
 use Rattle.session.specs.Machine.{Answer, Work, mk, waitAfter}
 use Rattle.session.specs.Start.{fresh}
 use Rattle.session.specs.declared.Command.{Command}
 use Rattle.session.specs.declared.Command.the-variants.{Erase, SetAddress, Block, Empty}
-use Rattle.session.specs.declared.End.{End}
 use Rattle.session.specs.declared.End.the-variants.{Stays, Reset}
-use Rattle.session.specs.declared.Phase.{Phase}
 use Rattle.session.specs.declared.Phase.the-variants.{First, Resetting, Finished}
 use Rattle.session.specs.declared.Progress.{Progress}
 use Rattle.session.specs.declared.Setup.{Setup}

@@ -1,33 +1,30 @@
 -- With a fair device and the budget an update finishes. Assumes nothing.
-use Prim.Native.Nat.{ℕ, zero, suc, _+_, _-_, _*_, _<_, _≤_}
+use Prim.Native.Nat.{ℕ, suc, _+_, _*_, _<_, _≤_}
 use native.Mathlib.Omega.{arith}
 use mathlib.Core.Path.{_≡_, refl, ap, sym, subst, _∙_}
-use mathlib.Core.Bool.{Bool, true, false}
-use mathlib.Core.List.{List, [], _∷_, map}
-use lib.Dec.{eqb, ltb, leb}
+use mathlib.Core.Bool.{Bool, false}
+use mathlib.Core.List.{List, map}
+use lib.Dec.{eqb, ltb}
 use lib.ListN.{length, length-map}
 use borrow.Author.Tests.{le-ltb, lt-leb, ne-eqb}
-use Rattle.ground.specs.Pick.{pick}
 use Rattle.ground.proofs.Tests.{picked}
-use Rattle.memory_layout.specs.Layout.{maxPages}
 use Rattle.protocol.specs.declared.DfuProtocol.{DfuProtocol}
 use Rattle.session.specs.Machine.{Answer, Work, mk}
 use Rattle.session.specs.Download.{download, limit, endOf}
-use Rattle.session.specs.Start.{dfuseb, targetOf, setupOf, fresh, nothingb, beyondb, overb, begunOf, beginOf}
-use Rattle.session.specs.declared.Phase.the-variants.{First, Finished}
+use Rattle.session.specs.Start.{dfuseb, setupOf, fresh, nothingb, beyondb, overb, begunOf, beginOf}
+use Rattle.session.specs.declared.Phase.the-variants.{First}
 use Rattle.session.specs.declared.Setup.{Setup}
 use Rattle.session.specs.declared.Session.{Session}
 use Rattle.session.specs.declared.start.DfuSansIo.{DfuSansIo}
-use Rattle.promises.specs.Plan.{plan}
 use Rattle.promises.proofs.Count.{plan-length}
 use Rattle.promises.specs.Run.{World, opened, after, transfers, cleared, Unrefused, Over}
 use Rattle.promises.specs.Sent.{onWire, Begins}
-use Rattle.promises.specs.Fair.{heeded, Fair, AllYes, Ready, requestsOf, bound}
+use Rattle.promises.specs.Fair.{heeded, Fair, Ready, requestsOf, bound}
 use Rattle.promises.specs.Finish.{Finishes}
 use Rattle.promises.proofs.Started.{begun}
 use Rattle.promises.proofs.Wanted.{left, wanted, fresh-wanted}
 use Rattle.promises.proofs.Onwire.{wanted-plan}
-use Rattle.promises.proofs.Lives.{Lived, lived, room-unrefused, at-rest}
+use Rattle.promises.proofs.Lives.{lived, room-unrefused, at-rest}
 use Rattle.promises.proofs.Roomy.{room, thrives, fresh-room}
 use Rattle.promises.proofs.Heeded.{heeded-run}
 use Rattle.promises.proofs.Ends.{ends-so}

@@ -1,19 +1,17 @@
 -- A run that finishes has sent the plan, and every run a leading part of it. Assumes nothing.
-use Prim.Native.Nat.{ℕ, suc, _<_}
+use Prim.Native.Nat.{ℕ, _<_}
 use mathlib.Core.Path.{_≡_, refl, ap, sym, subst, _∙_}
 use mathlib.Core.List.{List, [], _∷_, _++_, append-assoc, append-nil, map, map-append}
 use lib.Dec.{eqb}
 use lib.ListN.{length}
-use Rattle.ground.specs.Pick.{pick}
 use Rattle.ground.proofs.Tests.{picked}
-use Rattle.get_status.specs.declared.State.{State}
 use Rattle.protocol.specs.declared.DfuProtocol.{DfuProtocol}
-use Rattle.session.specs.Machine.{Answer, Work, mk, waitAfter}
+use Rattle.session.specs.Machine.{Answer, mk, waitAfter}
 use Rattle.session.specs.Download.{download, nextOf, tookOf}
 use Rattle.session.specs.Start.{setupOf, fresh}
 use Rattle.session.specs.declared.Command.{Command}
 use Rattle.session.specs.declared.Command.the-variants.{Erase, SetAddress, Block, Empty}
-use Rattle.session.specs.declared.Request.the-variants.{GetStatus, ClearStatus, Command as Commands}
+use Rattle.session.specs.declared.Request.the-variants.{Command as Commands}
 use Rattle.session.specs.declared.Phase.the-variants.{First}
 use Rattle.session.specs.declared.Setup.{Setup}
 use Rattle.session.specs.declared.Progress.{Progress}
@@ -22,9 +20,9 @@ use Rattle.session.specs.declared.Todo.{Todo}
 use Rattle.session.specs.declared.Todo.the-variants.{Send, End as Ends, Refuse}
 use Rattle.session.specs.declared.start.DfuSansIo.{DfuSansIo}
 use Rattle.promises.specs.Plan.{Dnload}
-use Rattle.promises.specs.Run.{Event, sends, hears, opened, after, commanded, Over, Fits, wholeOf, Full}
+use Rattle.promises.specs.Run.{Event, sends, opened, after, commanded, Over, Fits, wholeOf, Full}
 use Rattle.promises.specs.Sent.{onWire, planOf, Begins}
-use Rattle.promises.proofs.Walk.{Claims, Holds, Wished, SentAt, WaitingAt, Good, run-always, run-over, either-end}
+use Rattle.promises.proofs.Walk.{Claims, Holds, Wished, WaitingAt, Good, run-always, run-over, either-end}
 use Rattle.promises.proofs.Wanted.{left, Heads, heads, full, wanted, fresh-wanted}
 use Rattle.promises.proofs.Onwire.{wanted-plan}
 use Rattle.promises.proofs.Started.{begun}

@@ -1,14 +1,12 @@
 -- There is a fair device: it shows each awaited state at once. So what the promise of finishing supposes can be met, for every k and at every length. Assumes nothing.
-use Prim.Native.Nat.{ℕ, zero, suc, _≤_}
+use Prim.Native.Nat.{ℕ, zero, suc}
 use native.Mathlib.Nat.{le-refl}
-use native.Mathlib.Omega.{arith}
 use mathlib.Core.Path.{_≡_, refl, ap, subst, sym}
-use mathlib.Core.Logic.{_⊎_, inl, ⊎-elim}
-use mathlib.Core.Bool.{Bool, true, false}
+use mathlib.Core.Logic.{inl, ⊎-elim}
+use mathlib.Core.Bool.{true}
 use mathlib.Core.List.{List, [], _∷_}
 use lib.Dec.{eqb}
 use lib.ListN.{length}
-use Rattle.ground.specs.Pick.{pick}
 use Rattle.ground.proofs.Tests.{picked}
 use Rattle.get_status.specs.Names.{stateOf, stateByte, settled}
 use Rattle.get_status.specs.declared.State.{State}

@@ -23,3 +23,4 @@ pub mod Clears
 pub mod Ideal
 pub mod Machines
 pub mod Reached
+pub mod Demand

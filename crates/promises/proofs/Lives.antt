@@ -2,29 +2,27 @@
 use Prim.Native.Nat.{ℕ, zero, suc, _+_, _-_, _*_, _<_, _≤_}
 use native.Mathlib.Omega.{arith}
 use mathlib.Core.Path.{_≡_, refl, ap, sym, subst, _∙_}
-use mathlib.Core.Logic.{_⊎_, inl, inr, ⊎-elim}
-use mathlib.Core.Bool.{Bool, true, false}
+use mathlib.Core.Logic.{_⊎_, ⊎-elim}
+use mathlib.Core.Bool.{false}
 use mathlib.Core.List.{List, [], _∷_, _++_}
 use lib.Dec.{eqb, ltb}
 use lib.ListN.{length, length-append}
 use borrow.Author.Tests.{le-ltb, eqb-false}
-use Rattle.ground.specs.Pick.{pick}
 use Rattle.ground.proofs.Tests.{picked}
 use Rattle.get_status.specs.Names.{stateByte}
-use Rattle.get_status.specs.Reply.{messageOf, replyOf, judged}
+use Rattle.get_status.specs.Reply.{messageOf, replyOf}
 use Rattle.get_status.specs.declared.State.{State}
 use Rattle.get_status.specs.declared.GetStatusMessage.{GetStatusMessage}
 use Rattle.get_status.specs.declared.Reply.{Reply}
 use Rattle.get_status.specs.declared.Reply.the-variants.{ResponseTooShort as ShortReply, Read}
 use Rattle.get_status.specs.declared.Met.{Met}
-use Rattle.get_status.specs.declared.Met.the-variants.{Reached, Busy, InvalidState as Wrong}
-use Rattle.session.specs.Machine.{Answer, count, reply, waited, wasReset, failed, Work, mk, refuse, issue, endPhase, proceed, waitAfter, firstReply, laterReply, reading, onFirst, onSecond, onMet, onPoll, asksAt, go, toldAt, told}
+use Rattle.get_status.specs.declared.Met.the-variants.{Busy}
+use Rattle.session.specs.Machine.{Answer, count, reply, waited, wasReset, failed, Work, mk, issue, proceed, waitAfter, firstReply, laterReply, reading, onFirst, onSecond, onMet, onPoll, asksAt, go, toldAt, told}
 use Rattle.session.specs.declared.Command.{Command}
 use Rattle.session.specs.declared.Command.the-variants.{Erase, SetAddress, Block, Empty}
 use Rattle.session.specs.declared.Request.{Request}
 use Rattle.session.specs.declared.Request.the-variants.{GetStatus, ClearStatus, Command as Commands}
 use Rattle.session.specs.declared.Wait.the-variants.{Pause, Poll}
-use Rattle.session.specs.declared.End.the-variants.{Stays, Reset}
 use Rattle.session.specs.declared.Phase.{Phase}
 use Rattle.session.specs.declared.Phase.the-variants.{First, Clear, Second, Sent, Waiting, Resetting, Finished, Refused}
 use Rattle.session.specs.declared.Progress.{Progress}

@@ -1,13 +1,11 @@
 -- Our machine has the promises, and each machine that is shut out lacks one. Assumes nothing.
-use Prim.Native.Nat.{ℕ, zero, suc, _+_, _*_, _<_, _≤_}
+use Prim.Native.Nat.{ℕ, zero, suc, _*_, _≤_}
 use native.Mathlib.Omega.{arith}
-use mathlib.Core.Path.{_≡_, refl, ap, sym, subst, _∙_}
-use mathlib.Core.Logic.{⊎-elim}
+use mathlib.Core.Path.{_≡_, refl, ap, sym, _∙_}
 use mathlib.Core.Bool.{Bool, true, false, true≢false}
 use mathlib.Core.List.{List, [], _∷_, _++_, map}
 use lib.ListN.{length, getD, length-append, length-map}
 use Rattle.ground.specs.Bytes.{littleEndian, field, bytesLow}
-use Rattle.protocol.specs.declared.DfuProtocol.{DfuProtocol}
 use Rattle.protocol.specs.declared.DfuProtocol.the-variants.{Dfu, Dfuse}
 use Rattle.session.specs.Machine.{Answer, count, reply, waited, mk, onFirst, onSecond, onPoll, told}
 use Rattle.session.specs.Download.{download, covering, eraseNext, writeNext, nextOf, tookOf}

@@ -9,9 +9,8 @@ use lib.Seq.{take-all}
 use lib.Dec.{leb}
 use borrow.Author.Tests.{leb-true, leb-false, le-leb}
 use Rattle.ground.specs.Pick.{pick}
-use Rattle.session.specs.Download.{covering, requestData, filledFor}
-use Rattle.session.specs.declared.Command.{Command}
-use Rattle.session.specs.declared.Command.the-variants.{Erase, SetAddress, Block, Empty}
+use Rattle.session.specs.Download.{covering}
+use Rattle.session.specs.declared.Command.the-variants.{Erase, SetAddress, Empty}
 use Rattle.session.specs.declared.Setup.{Setup}
 use Rattle.promises.specs.Dfu11.{DFU_DNLOAD}
 use Rattle.promises.specs.Dfuse.{eraseCommand, setAddressCommand}

@@ -1,5 +1,5 @@
 -- The bound is reached: a fair run with a clear and two busy replies to each wait spends exactly it, and with one less it is refused by 23. Assumes nothing.
-use Prim.Native.Nat.{ℕ, _≤_, _<_}
+use Prim.Native.Nat.{ℕ, _≤_}
 use native.Mathlib.Omega.{arith}
 use mathlib.Core.Path.{_≡_, refl, _∙_}
 use mathlib.Core.Logic.{inl, inr}
@@ -59,15 +59,81 @@ pub reached-fair : Fair 2 0 (download pages) (begunWith 18) answers
 unfolding FairBy told onFirst onSecond onPoll eraseNext writeNext nextOf tookOf field littleEndian
 reached-fair =
     let six : 6 ≤ 6 = omega arith in
-    let n : 0 ≤ 5 = omega arith in
-    (
-      (six, tt), (
-      tt, (
-      (six, refl), (
-      n, (tt, ((six, inr (refl, omega arith)), (tt, ((six, inr (refl, omega arith)), (tt, ((six, inl refl), (
-      n, (tt, ((six, inr (refl, omega arith)), (tt, ((six, inr (refl, omega arith)), (tt, ((six, inl refl), (
-      omega arith, (tt, ((six, inr (refl, omega arith)), (tt, ((six, inr (refl, omega arith)), (tt, ((six, inl refl), (
-      omega arith, (tt, ((six, inr (refl, omega arith)), (tt, ((six, inr (refl, omega arith)), (tt, ((six, inl refl), tt))))))))))))))))))))))))))))))
+    let n : 0 ≤ 5 = omega arith in (
+      (six, tt),
+      (
+        tt,
+        (
+          (six, refl),
+          (
+            n,
+            (
+              tt,
+              (
+                (six, inr (refl, omega arith)),
+                (
+                  tt,
+                  (
+                    (six, inr (refl, omega arith)),
+                    (
+                      tt,
+                      (
+                        (six, inl refl),
+                        (
+                          n,
+                          (
+                            tt,
+                            (
+                              (six, inr (refl, omega arith)),
+                              (
+                                tt,
+                                (
+                                  (six, inr (refl, omega arith)),
+                                  (
+                                    tt,
+                                    (
+                                      (six, inl refl),
+                                      (
+                                        omega arith,
+                                        (
+                                          tt,
+                                          (
+                                            (six, inr (refl, omega arith)),
+                                            (
+                                              tt,
+                                              (
+                                                (six, inr (refl, omega arith)),
+                                                (
+                                                  tt,
+                                                  (
+                                                    (six, inl refl),
+                                                    (
+                                                      omega arith,
+                                                      (tt, ((six, inr (refl, omega arith)), (tt, ((six, inr (refl, omega arith)), (tt, ((six, inl refl), tt)))))),
+                                                    ),
+                                                  ),
+                                                ),
+                                              ),
+                                            ),
+                                          ),
+                                        ),
+                                      ),
+                                    ),
+                                  ),
+                                ),
+                              ),
+                            ),
+                          ),
+                        ),
+                      ),
+                    ),
+                  ),
+                ),
+              ),
+            ),
+          ),
+        ),
+      ),
     )
 
 -- EXACTLY THE BOUND, with one clear

@@ -1,29 +1,26 @@
 -- A run that lends the same things at each call is the run of the definitions: 25 is not given, and `data` hands over the plan's bytes. Assumes nothing.
-use Prim.Native.Nat.{ℕ, _+_, _≤_}
+use Prim.Native.Nat.{ℕ, _≤_}
 use native.Mathlib.Omega.{arith}
 use mathlib.Core.Path.{_≡_, refl, ap, sym, subst, _∙_}
 use mathlib.Core.Logic.{_⊎_, inl, inr}
-use mathlib.Core.Bool.{Bool, true, false, true≢false}
+use mathlib.Core.Bool.{Bool, true, false}
 use mathlib.Core.List.{List, [], _∷_, _++_}
 use lib.Dec.{eqb, ltb}
-use lib.ListN.{length, drop}
+use lib.ListN.{length}
 use borrow.Author.Tests.{eq-eqb, le-ltb}
 use Rattle.ground.specs.Bytes.{bytesLow}
 use Rattle.ground.specs.Pick.{pick}
 use Rattle.ground.proofs.Tests.{picked}
-use Rattle.protocol.specs.declared.DfuProtocol.{DfuProtocol}
-use Rattle.session.specs.Machine.{Answer, count, reply, waited, wasReset, failed, Work, mk, asksAt, go, awaitReply, awaitCount, awaitWait, awaitReset, toldAt, told}
-use Rattle.session.specs.Download.{download, liveb, asAtStart, guardOf, through, called, filledFor, filledBy, filled, callOf, requestData, askData, dataOf}
-use Rattle.session.specs.Start.{dfuseb, setupOf}
-use Rattle.session.specs.declared.Command.{Command}
+use Rattle.session.specs.Machine.{Answer, count, reply, waited, wasReset, failed, Work, mk, asksAt, awaitReply, awaitCount, awaitWait, awaitReset, toldAt, told}
+use Rattle.session.specs.Download.{download, asAtStart, guardOf, through, called, filledFor, filledBy, callOf, requestData, askData, dataOf}
 use Rattle.session.specs.declared.Command.the-variants.{Erase, SetAddress, Block, Empty}
 use Rattle.session.specs.declared.Request.{Request}
 use Rattle.session.specs.declared.Request.the-variants.{GetStatus, ClearStatus, Command as Commands}
 use Rattle.session.specs.declared.Wait.the-variants.{Pause, Poll}
 use Rattle.session.specs.declared.Error.{Error}
-use Rattle.session.specs.declared.Error.the-variants.{NotAwaited, NotAsAtStart}
+use Rattle.session.specs.declared.Error.the-variants.{NotAwaited}
 use Rattle.session.specs.declared.Guard.{Guard}
-use Rattle.session.specs.declared.Guard.the-variants.{Open, Shut}
+use Rattle.session.specs.declared.Guard.the-variants.{Open}
 use Rattle.session.specs.declared.Phase.{Phase}
 use Rattle.session.specs.declared.Phase.the-variants.{First, Clear, Second, Sent, Waiting, Resetting, Finished, Refused}
 use Rattle.session.specs.declared.Progress.{Progress}
@@ -32,9 +29,8 @@ use Rattle.session.specs.declared.Session.{Session}
 use Rattle.session.specs.declared.Ask.{Ask}
 use Rattle.session.specs.declared.Ask.the-variants.{Transfer, Refused as SaysNo}
 use Rattle.session.specs.declared.Step.{Step}
-use Rattle.session.specs.declared.start.DfuSansIo.{DfuSansIo}
-use Rattle.promises.specs.Run.{Event, sentBy, heardAt, World, tell, after, afterBy}
-use Rattle.promises.specs.Calls.{Call, outcome, heardThrough, call, calls, Lends, AllLend, answers}
+use Rattle.promises.specs.Run.{Event, sentBy, World, tell, after, afterBy}
+use Rattle.promises.specs.Calls.{Call, outcome, heardThrough, call, calls, Lends, AllLend, rightly, passed, AllPass, answers}
 use Rattle.promises.proofs.Spends.{tell-setup}
 use Rattle.promises.proofs.Wire.{erase-command, address-command}
 
@@ -89,6 +85,43 @@ module _ (fw ps : List ℕ) where
   same-calls x (c ∷ more) k v =
       ap (λ (y : World). calls y more) (same-call x c k (v .0))
       ∙ same-calls (tell (download ps) x (c .answer)) more (subst For (sym (tell-setup (download ps) x (c .answer))) k) (v .1)
+
+-- a call that doesn't lend as at start leaves the world as it was
+shut-at : (su : Setup) (pr : Progress) (l : ℕ) (p : Phase) (h : List Event) (c : Call) → rightly su c ≡ false
+    → worldBy su pr l p h c (guardOf (mk su pr l p) (length (c .firmware)) (length (c .pages)) (length (c .command))) ≡ record { session = mk su pr l p; past = h }
+unfolding guardOf
+shut-at su pr l First h c e = rw e
+shut-at su pr l Clear h c e = rw e
+shut-at su pr l Second h c e = rw e
+shut-at su pr l (Sent d) h c e = rw e
+shut-at su pr l (Waiting y) h c e = rw e
+shut-at su pr l Resetting h c e = rw e
+shut-at su pr l (Finished y) h c e = refl
+shut-at su pr l (Refused y) h c e = refl
+
+call-shut : (x : World) (c : Call) → rightly (x .session .setup) c ≡ false → call x c ≡ x
+unfolding callOf called told
+call-shut x c e = shut-at (x .session .setup) (x .session .progress) (x .session .left) (x .session .phase) (x .past) c e
+
+-- 25 CHANGES NOTHING: a run over calls is the run of the answers that were let through
+pub passed-run : (ps : List ℕ) (x : World) (more : List Call) → AllPass ps (x .session .setup) more
+    → calls x more ≡ after (download ps) x (passed (x .session .setup) more)
+unfolding calls afterBy AllPass passed
+passed-run ps x [] v = refl
+passed-run ps x (c ∷ more) v =
+    by (rightly (x .session .setup) c) refl
+    (λ e. passed-run ps (tell (download ps) x (c .answer)) more (subst (λ (su : Setup). AllPass ps su more) (sym (tell-setup (download ps) x (c .answer))) (v .1)))
+    (passed-run ps x more (v .1))
+  where
+    by : (b : Bool) → rightly (x .session .setup) c ≡ b
+        → (b ≡ true → calls (tell (download ps) x (c .answer)) more ≡ after (download ps) (tell (download ps) x (c .answer)) (passed ((tell (download ps) x (c .answer)) .session .setup) more))
+        → calls x more ≡ after (download ps) x (passed (x .session .setup) more)
+        → calls (call x c) more ≡ after (download ps) x (pick b (c .answer ∷ passed (x .session .setup) more) (passed (x .session .setup) more))
+    by true e on off =
+        ap (λ (y : World). calls y more) (call-tells x c e ∙ ap (λ (y : List ℕ). tell (download y) x (c .answer)) (v .0 e))
+        ∙ on refl
+        ∙ ap (λ (su : Setup). after (download ps) (tell (download ps) x (c .answer)) (passed su more)) (tell-setup (download ps) x (c .answer))
+    by false e on off = ap (λ (y : World). calls y more) (call-shut x c e) ∙ off
 
 -- what a call answers: what the next session asks, or 24
 abbrev pub Answers : Step → Type 0

@@ -2,22 +2,17 @@
 use Prim.Native.Nat.{ℕ, _+_}
 use native.Mathlib.Omega.{arith}
 use mathlib.Core.Path.{_≡_, refl, ap, sym, subst, _∙_}
-use mathlib.Core.Logic.{_⊎_, inl, inr, ⊎-elim}
-use mathlib.Core.Bool.{Bool}
-use mathlib.Core.List.{List, [], _∷_}
+use mathlib.Core.Logic.{⊎-elim}
+use mathlib.Core.List.{List}
 use lib.Dec.{eqb, ltb}
 use lib.ListN.{length, getD}
 use Rattle.ground.proofs.Tests.{picked}
 use Rattle.protocol.specs.declared.DfuProtocol.{DfuProtocol}
-use Rattle.session.specs.Machine.{Answer, mk, asksAt, told, waitAfter}
+use Rattle.session.specs.Machine.{asksAt, told}
 use Rattle.session.specs.Download.{limit, endOf, blockLength, eraseNext, writeNext, nextAt, nextOf, download}
-use Rattle.session.specs.Start.{setupOf, fresh}
-use Rattle.session.specs.declared.Command.{Command}
-use Rattle.session.specs.declared.Command.the-variants.{Erase, SetAddress, Block, Empty}
+use Rattle.session.specs.Start.{setupOf}
 use Rattle.session.specs.declared.Wait.the-variants.{Pause, Poll}
-use Rattle.session.specs.declared.Error.{Error}
 use Rattle.session.specs.declared.Error.the-variants.{NotAwaited, NotAsAtStart}
-use Rattle.session.specs.declared.End.the-variants.{Stays}
 use Rattle.session.specs.declared.Stage.{Stage}
 use Rattle.session.specs.declared.Stage.the-variants.{Erasing, Writing, Ending as Closing}
 use Rattle.session.specs.declared.Phase.{Phase}
@@ -26,15 +21,14 @@ use Rattle.session.specs.declared.Progress.{Progress}
 use Rattle.session.specs.declared.Setup.{Setup}
 use Rattle.session.specs.declared.Session.{Session}
 use Rattle.session.specs.declared.Todo.{Todo}
-use Rattle.session.specs.declared.Ask.{Ask}
 use Rattle.session.specs.declared.Ask.the-variants.{Refused as SaysNo}
 use Rattle.session.specs.declared.Step.{Step}
 use Rattle.session.specs.declared.start.DfuSansIo.{DfuSansIo}
 use Rattle.promises.specs.Run.{Event, opened, after, World, tell}
 use Rattle.promises.specs.Calls.{Call, outcome, calls, Lends, AllLend, answers}
 use Rattle.promises.specs.Sent.{Begins}
-use Rattle.promises.proofs.Walk.{Claims, Ending, Holds, Wished, WaitingAt, ClaimAt, Good, tell-good, run-good, either-end}
-use Rattle.promises.proofs.Spends.{Any, any-fits, all-fit, tell-setup}
+use Rattle.promises.proofs.Walk.{Claims, Ending, Holds, Wished, ClaimAt, Good, tell-good, run-good, either-end}
+use Rattle.promises.proofs.Spends.{Any, any-fits, all-fit}
 use Rattle.promises.proofs.Started.{started}
 use Rattle.promises.proofs.Real.{For, same-calls, same-step, answers-told}
 

@@ -8,14 +8,12 @@ use borrow.Author.Tests.{eqb-true}
 use Rattle.ground.specs.Pick.{pick}
 use Rattle.ground.proofs.Tests.{picked}
 use Rattle.get_status.specs.Names.{stateByte}
-use Rattle.get_status.specs.Reply.{judged}
 use Rattle.get_status.specs.declared.State.{State}
 use Rattle.get_status.specs.declared.GetStatusMessage.{GetStatusMessage}
 use Rattle.get_status.specs.declared.Reply.{Reply}
 use Rattle.get_status.specs.declared.Reply.the-variants.{ResponseTooShort as ShortReply, Read}
 use Rattle.get_status.specs.declared.Met.{Met}
-use Rattle.get_status.specs.declared.Met.the-variants.{Reached, Busy, InvalidState as Wrong}
-use Rattle.session.specs.Machine.{Answer, count, reply, waited, wasReset, failed, Work, mk, refuse, issue, endPhase, proceed, waitAfter, firstReply, laterReply, reading, onFirst, onSecond, onMet, onPoll, asksAt, go, stay, awaitReply, awaitCount, awaitWait, awaitReset, toldAt, told}
+use Rattle.session.specs.Machine.{Answer, count, reply, waited, wasReset, failed, Work, mk, refuse, issue, endPhase, proceed, waitAfter, firstReply, laterReply, reading, onFirst, onSecond, onMet, onPoll, asksAt, go, stay, toldAt, told}
 use Rattle.session.specs.declared.Command.{Command}
 use Rattle.session.specs.declared.Command.the-variants.{Erase, SetAddress, Block, Empty}
 use Rattle.session.specs.declared.Request.{Request}
@@ -36,7 +34,7 @@ use Rattle.session.specs.declared.Todo.the-variants.{Send, End as Ends, Refuse}
 use Rattle.session.specs.declared.Ask.{Ask}
 use Rattle.session.specs.declared.Ask.the-variants.{Transfer}
 use Rattle.session.specs.declared.Step.{Step}
-use Rattle.promises.specs.Run.{Event, sends, hears, sentBy, shownBy, shownFirst, shownLater, heardAt, World, tell, after, afterBy, Over, FitsAt, Fits, FitsBy}
+use Rattle.promises.specs.Run.{Event, sends, hears, sentBy, shownBy, heardAt, World, tell, after, afterBy, Over, FitsAt, Fits, FitsBy}
 
 -- what is claimed at each kind of phase: in the opening, where the work is asked next, in a wait before and after a look, at the end, after a refusal;
 -- and whatever happens

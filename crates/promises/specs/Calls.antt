@@ -1,13 +1,16 @@
 -- A run over the calls themselves: at each one firmware, pages and command bytes are lent anew, and an answer is told.
 use Prim.Native.Nat.{ℕ, _≤_}
 use mathlib.Core.Path.{_≡_}
+use mathlib.Core.Bool.{Bool, true}
 use mathlib.Core.List.{List, [], _∷_, _++_}
 use lib.ListN.{length}
+use Rattle.ground.specs.Pick.{pick}
 use Rattle.session.specs.Machine.{Answer, asksAt}
-use Rattle.session.specs.Download.{guardOf, Outcome, out, callOf}
+use Rattle.session.specs.Download.{asAtStart, guardOf, Outcome, out, callOf}
 use Rattle.session.specs.declared.Guard.{Guard}
 use Rattle.session.specs.declared.Guard.the-variants.{Open, Shut}
 use Rattle.session.specs.declared.Phase.{Phase}
+use Rattle.session.specs.declared.Setup.{Setup}
 use Rattle.session.specs.declared.Session.{Session}
 use Rattle.promises.specs.Run.{Event, sentBy, heardAt, World}
 
@@ -44,6 +47,19 @@ Lends fw ps c = (c .firmware ≡ fw) × (c .pages ≡ ps) × (5 ≤ length (c .c
 unfoldable pub AllLend : List ℕ → List ℕ → List Call → Type 0
 AllLend fw ps [] = Unit
 AllLend fw ps (c ∷ more) = Lends fw ps c × AllLend fw ps more
+
+-- the calls that lend as at start are told; the others are refused by 25
+abbrev pub rightly : Setup → Call → Bool
+rightly su c = asAtStart su (length (c .firmware)) (length (c .pages)) (length (c .command))
+
+unfoldable pub passed : Setup → List Call → List Answer
+passed su [] = []
+passed su (c ∷ more) = pick (rightly su c) (c .answer ∷ passed su more) (passed su more)
+
+-- whatever the others lend, these lend the same pages
+unfoldable pub AllPass : List ℕ → Setup → List Call → Type 0
+AllPass ps su [] = Unit
+AllPass ps su (c ∷ more) = (rightly su c ≡ true → c .pages ≡ ps) × AllPass ps su more
 
 unfoldable pub answers : List Call → List Answer
 answers [] = []

@@ -1,14 +1,13 @@
 -- The promises as predicates on a machine, and machines that each lack one.
-use Prim.Native.Nat.{ℕ, zero, suc, _+_, _*_, _<_, _≤_}
+use Prim.Native.Nat.{ℕ, _+_, _*_, _<_, _≤_}
 use mathlib.Core.Path.{_≡_}
-use mathlib.Core.Bool.{Bool, true, false}
-use mathlib.Core.List.{List, [], _∷_, _++_, map}
+use mathlib.Core.List.{List, _++_, map}
 use lib.Dec.{ltb}
 use lib.ListN.{length}
 use Rattle.ground.specs.Pick.{pick}
 use Rattle.protocol.specs.declared.DfuProtocol.{DfuProtocol}
-use Rattle.session.specs.Machine.{Answer, count, reply, waited, wasReset, failed, Work, mk, proceed, go, stay, told}
-use Rattle.session.specs.Download.{download, addressed, eraseNext, nextOf, tookOf}
+use Rattle.session.specs.Machine.{Answer, count, reply, waited, wasReset, failed, mk, proceed, go, stay, told}
+use Rattle.session.specs.Download.{download, eraseNext, nextOf, tookOf}
 use Rattle.session.specs.Start.{beginOf}
 use Rattle.session.specs.declared.Command.the-variants.{SetAddress}
 use Rattle.session.specs.declared.Request.the-variants.{GetStatus}
