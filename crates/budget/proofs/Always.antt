@@ -24,6 +24,8 @@ use Rattle.budget.specs.declared.Suffices.{Suffices}
 use Rattle.budget.specs.declared.Suffices.the-variants.{Budget, Never}
 use Rattle.budget.proofs.enough.Kinds as enough-kinds
 use Rattle.budget.proofs.enough.Reads as enough-reads
+use Rattle.budget.proofs.enough_for.Kinds as enough-for-kinds
+use Rattle.budget.proofs.enough_for.Reads as enough-for-reads
 
 never-budget : {n : ℕ} → Never ≡ Budget n → ⊥
 never-budget e = let z : _≡_ {A = ℕ} 0 1 = cc in omega arith
@@ -58,3 +60,6 @@ module _ (io : DfuSansIo) (p : DfuProtocol) (fw ps : List ℕ) (k n : ℕ) where
 
 pub pinned-enough : Pins enough-kinds.ps enough-kinds.r {R = Suffices} enough-reads.Post (λ κs r s. r)
 pinned-enough κs a x y s t p q = p ∙ sym q
+
+pub pinned-enough-for : Pins enough-for-kinds.ps enough-for-kinds.r {R = Suffices} enough-for-reads.Post (λ κs r s. r)
+pinned-enough-for κs a x y s t p q = p ∙ sym q

@@ -74,17 +74,16 @@ fn is_over(dfuse: bool, pages: usize) -> bool
     false
 }
 
-// A budget that always suffices where the device answers as it ought to and each wait meets at most `busy` busy replies.
-pub fn enough(
+// A budget that always suffices where the device answers as it ought to and each wait meets at most `busy` busy replies: for a firmware of so many bytes.
+pub fn enough_for(
     io: DfuSansIo,
     protocol: DfuProtocol,
-    firmware: &[u8],
+    length: u64,
     pages: &[u32],
     busy: u64,
 ) -> Suffices
-    ensures { λ r. ⌜ r ≡ enoughOf io protocol (length (now (firmware .entry))) (now (pages .entry)) busy ⌝ }
+    ensures { λ r. ⌜ r ≡ enoughOf io protocol length (now (pages .entry)) busy ⌝ }
 {
-    let length = firmware.len() as u64;
     if 4294967295 < length {
         return Suffices::Never;
     }
@@ -95,4 +94,17 @@ pub fn enough(
     let descriptor = io.descriptor;
     let sent = requests(dfuse, length as u32, descriptor.transfer_size, pages);
     budget_for(sent, busy)
+}
+
+// The same from start's own arguments: of the firmware only the length is looked at.
+pub fn enough(
+    io: DfuSansIo,
+    protocol: DfuProtocol,
+    firmware: &[u8],
+    pages: &[u32],
+    busy: u64,
+) -> Suffices
+    ensures { λ r. ⌜ r ≡ enoughOf io protocol (length (now (firmware .entry))) (now (pages .entry)) busy ⌝ }
+{
+    enough_for(io, protocol, firmware.len() as u64, pages, busy)
 }

@@ -497,14 +497,8 @@ impl Session {
     }
 
     // A transfer that asked for bytes brought these. The next command's bytes are filled in.
-    pub fn told_reply(
-        self,
-        bytes: &[u8],
-        firmware: &[u8],
-        pages: &[u32],
-        command: &mut [u8],
-    ) -> Step
-        ensures { λ r. ⌜ out r (now (command .exit)) ≡ callOf (now (firmware .entry)) (now (pages .entry)) (now (command .entry)) self (reply (now (bytes .entry))) ⌝ }
+    pub fn told_reply(self, got: &[u8], firmware: &[u8], pages: &[u32], command: &mut [u8]) -> Step
+        ensures { λ r. ⌜ out r (now (command .exit)) ≡ callOf (now (firmware .entry)) (now (pages .entry)) (now (command .entry)) self (reply (now (got .entry))) ⌝ }
     {
         let guard = self.guard(firmware.len(), pages.len(), command.len());
         let setup = self.setup;
@@ -518,12 +512,12 @@ impl Session {
             },
             Guard::Open => match phase {
                 Phase::First => {
-                    filled_in(step_to(first_reply(setup, progress, left, bytes)), command)
+                    filled_in(step_to(first_reply(setup, progress, left, got)), command)
                 }
                 Phase::Second => {
                     let todo = download::next(pages, setup, progress);
                     filled_in(
-                        step_to(second_reply(setup, progress, left, todo, bytes)),
+                        step_to(second_reply(setup, progress, left, todo, got)),
                         command,
                     )
                 }
@@ -531,15 +525,11 @@ impl Session {
                     Wait::Poll { busy, target } => {
                         let todo = download::next(pages, setup, progress);
                         filled_in(
-                            step_to(wait_reply(setup, progress, left, busy, target, todo, bytes)),
+                            step_to(wait_reply(setup, progress, left, busy, target, todo, got)),
                             command,
                         )
                     }
-                    Wait::Pause {
-                        busy: _,
-                        target: _,
-                        ms: _,
-                    } => not_awaited(self),
+                    Wait::Pause { .. } => not_awaited(self),
                 },
                 _ => not_awaited(self),
             },

@@ -84,7 +84,7 @@ not-awaited-requires-2 c κs = search needs
 returns : tie.Need-returns
 returns c =
     let a = c .before .before .before .before .before .before .before .before .before .before .args in
-    reply-shut (a .firmware .now) (a .pages .now) (a .command .now) (a .self) (reply (a .bytes .now)) _ (sym (c .before .before .before .before .before .guard .ensures) ∙ c .before .guard2 .given .1)
+    reply-shut (a .firmware .now) (a .pages .now) (a .command .now) (a .self) (reply (a .got .now)) _ (sym (c .before .before .before .before .before .guard .ensures) ∙ c .before .guard2 .given .1)
 
 same-length : tie.Need-same-length
 same-length c = search needs
@@ -95,9 +95,9 @@ returns-2 c =
     let s = a .self in
     let ps = a .pages .now in
     let g = sym (c .before .before .before .before .before .before .before .before .before .before .before .before .guard .ensures) ∙ c .before .before .before .before .before .before .before .before .enum-told .given .1 in
-    let thence = reply-open (a .firmware .now) ps (a .command .now) s (reply (a .bytes .now)) g in
+    let thence = reply-open (a .firmware .now) ps (a .command .now) s (reply (a .got .now)) g in
     c .before .before .filled-in .ensures
-    ∙ ap (λ (st : Step). filled st (a .command .now)) (c .before .before .before .before .step-to .ensures ∙ ap go (c .before .before .before .before .before .first-reply .ensures) ∙ at-phase (download ps) s (reply (a .bytes .now)) First (c .before .before .before .before .before .before .enum-told2 .given .1))
+    ∙ ap (λ (st : Step). filled st (a .command .now)) (c .before .before .before .before .step-to .ensures ∙ ap go (c .before .before .before .before .before .first-reply .ensures) ∙ at-phase (download ps) s (reply (a .got .now)) First (c .before .before .before .before .before .before .enum-told2 .given .1))
     ∙ thence
 
 same-length-2 : tie.Need-same-length-2
@@ -109,10 +109,10 @@ returns-3 c =
     let s = a .self in
     let ps = a .pages .now in
     let g = sym (c .before .before .before .before .before .before .before .before .before .before .before .before .before .guard .ensures) ∙ c .before .before .before .before .before .before .before .before .before .enum-told .given .1 in
-    let thence = reply-open (a .firmware .now) ps (a .command .now) s (reply (a .bytes .now)) g in
-    let todo = ap (λ (t : Todo). go (reading (s .setup) (s .progress) (s .left) (laterReply (a .bytes .now)) (onSecond (s .setup) (s .progress) (s .left) t))) (c .before .before .before .before .before .before .next .ensures) in
+    let thence = reply-open (a .firmware .now) ps (a .command .now) s (reply (a .got .now)) g in
+    let todo = ap (λ (t : Todo). go (reading (s .setup) (s .progress) (s .left) (laterReply (a .got .now)) (onSecond (s .setup) (s .progress) (s .left) t))) (c .before .before .before .before .before .before .next .ensures) in
     c .before .before .filled-in2 .ensures
-    ∙ ap (λ (st : Step). filled st (a .command .now)) (c .before .before .before .before .step-to2 .ensures ∙ ap go (c .before .before .before .before .before .second-reply .ensures) ∙ todo ∙ at-phase (download ps) s (reply (a .bytes .now)) Second (c .before .before .before .before .before .before .before .enum-told3 .given .1))
+    ∙ ap (λ (st : Step). filled st (a .command .now)) (c .before .before .before .before .step-to2 .ensures ∙ ap go (c .before .before .before .before .before .second-reply .ensures) ∙ todo ∙ at-phase (download ps) s (reply (a .got .now)) Second (c .before .before .before .before .before .before .before .enum-told3 .given .1))
     ∙ thence
 
 same-length-3 : tie.Need-same-length-3
@@ -124,14 +124,14 @@ returns-4 c =
     let s = a .self in
     let ps = a .pages .now in
     let g = sym (c .before .before .before .before .before .before .before .before .before .before .before .before .before .before .before .before .before .guard .ensures) ∙ c .before .before .before .before .before .before .before .before .before .before .before .before .before .enum-told .given .1 in
-    let thence = reply-open (a .firmware .now) ps (a .command .now) s (reply (a .bytes .now)) g in
+    let thence = reply-open (a .firmware .now) ps (a .command .now) s (reply (a .got .now)) g in
     let busy = c .before .before .before .before .before .before .before .before .wait .given .0 .0 in
     let target = c .before .before .before .before .before .before .before .before .wait .given .0 .1 .0 in
-    let todo = ap (λ (t : Todo). go (reading (s .setup) (s .progress) (s .left) (laterReply (a .bytes .now)) (onPoll (s .setup) (s .progress) (s .left) busy target t))) (c .before .before .before .before .before .before .next2 .ensures) in
+    let todo = ap (λ (t : Todo). go (reading (s .setup) (s .progress) (s .left) (laterReply (a .got .now)) (onPoll (s .setup) (s .progress) (s .left) busy target t))) (c .before .before .before .before .before .before .next2 .ensures) in
     c .before .before .filled-in3 .ensures
     ∙ ap (λ (st : Step). filled st (a .command .now))
     (c .before .before .before .before .step-to3 .ensures ∙ ap go (c .before .before .before .before .before .wait-reply .ensures) ∙ todo
-    ∙ at-phase (download ps) s (reply (a .bytes .now)) (Waiting (Poll busy target)) (c .before .before .before .before .before .before .before .before .before .before .before .phase .given .1 ∙ ap Waiting (c .before .before .before .before .before .before .before .before .wait .given .1)))
+    ∙ at-phase (download ps) s (reply (a .got .now)) (Waiting (Poll busy target)) (c .before .before .before .before .before .before .before .before .before .before .before .phase .given .1 ∙ ap Waiting (c .before .before .before .before .before .before .before .before .wait .given .1)))
     ∙ thence
 
 returns-5 : tie.Need-returns-5
@@ -140,9 +140,9 @@ returns-5 c =
     let s = a .self in
     let ps = a .pages .now in
     let g = sym (c .before .before .before .before .before .before .before .before .before .before .guard .ensures) ∙ c .before .before .before .before .before .before .enum-told .given .1 in
-    let thence = reply-open (a .firmware .now) ps (a .command .now) s (reply (a .bytes .now)) g in
+    let thence = reply-open (a .firmware .now) ps (a .command .now) s (reply (a .got .now)) g in
     ap (λ (st : Step). out st (a .command .now)) (c .not-awaited .ensures)
-    ∙ ap (λ (st : Step). filled st (a .command .now)) (stays (download ps) s (reply (a .bytes .now)) _ (c .before .before .before .before .phase .given .1 ∙ ap Waiting (c .before .enum-told4 .given .1)) refl)
+    ∙ ap (λ (st : Step). filled st (a .command .now)) (stays (download ps) s (reply (a .got .now)) _ (c .before .before .before .before .phase .given .1 ∙ ap Waiting (c .before .enum-told4 .given .1)) refl)
     ∙ thence
 
 returns-6 : tie.Need-returns-6
@@ -151,10 +151,10 @@ returns-6 c =
     let s = a .self in
     let ps = a .pages .now in
     let g = sym (c .before .before .before .before .before .before .guard .ensures) ∙ c .before .before .enum-told .given .1 in
-    let thence = reply-open (a .firmware .now) ps (a .command .now) s (reply (a .bytes .now)) g in
+    let thence = reply-open (a .firmware .now) ps (a .command .now) s (reply (a .got .now)) g in
     ap (λ (st : Step). out st (a .command .now)) (c .not-awaited2 .ensures)
     ∙ ap (λ (st : Step). filled st (a .command .now))
-    (sym (no-reply (download ps) (s .setup) (s .progress) (s .left) (a .bytes .now) (s .phase) (live s (length (a .firmware .now)) (length ps) (length (a .command .now)) g) (c .before .match2 .keys4)) ∙ at-phase (download ps) s (reply (a .bytes .now)) (s .phase) refl)
+    (sym (no-reply (download ps) (s .setup) (s .progress) (s .left) (a .got .now) (s .phase) (live s (length (a .firmware .now)) (length ps) (length (a .command .now)) g) (c .before .match2 .keys4)) ∙ at-phase (download ps) s (reply (a .got .now)) (s .phase) refl)
     ∙ thence
 
 pub told-reply-spec : {M : Type 1} → statement M

@@ -1,4 +1,4 @@
--- `enough` meets its contract: the tests are those of the definition, in its order, and they leave what is called its room.
+-- `enough_for` meets its contract: the tests are those of the definition, in its order, and they leave what is called its room.
 use Prim.Native.Nat.{ℕ, _≤_}
 use mathlib.Core.Path.{_≡_, sym, _∙_}
 use mathlib.Core.Bool.{Bool, true, false}
@@ -9,8 +9,8 @@ use Rattle.memory_layout.specs.Layout.{maxPages}
 use Rattle.session.specs.Start.{overb}
 use Rattle.budget.specs.Enough.{enoughOf}
 use Rattle.budget.proofs.Fits.{commands-pos}
-use Rattle.budget.proofs.enough.Statement.{statement}
-use Rattle.budget.proofs.enough.Tie as tie
+use Rattle.budget.proofs.enough_for.Statement.{statement}
+use Rattle.budget.proofs.enough_for.Tie as tie
 
 -- DfuSe pages that are not too many are few
 few : (d : Bool) (n : ℕ) → overb d n ≡ false → d ≡ true → n ≤ maxPages
@@ -44,5 +44,5 @@ returns-3 : tie.Need-returns-3
 unfolding enoughOf
 returns-3 c = simp (le-ltb _ _ (c .before .before .before .before .before .before .if1 .left), ← (c .before .before .before .before .before .is-dfuse .ensures), ← (c .before .before .before .before .is-over .ensures), c .before .before .before .if2 .left, ← (c .before .requests .ensures)) (c .budget-for .ensures)
 
-pub enough-spec : {M : Type 1} → statement M
-enough-spec = tie.close (tie.spec returns is-dfuse-requires is-over-requires returns-2 cast-requests requests-requires budget-for-requires returns-3)
+pub enough-for-spec : {M : Type 1} → statement M
+enough-for-spec = tie.close (tie.spec returns is-dfuse-requires is-over-requires returns-2 cast-requests requests-requires budget-for-requires returns-3)
