@@ -30,7 +30,7 @@ ended-silent Resetting e = absurd (true≢false e)
 ended-silent (Finished x) e = refl
 ended-silent (Refused x) e = refl
 
-ended-fills : (p : Phase) (cmd : List ℕ) → liveb p ≡ false → filledBy (asksAt p) cmd ≡ cmd
+pub ended-fills : (p : Phase) (cmd : List ℕ) → liveb p ≡ false → filledBy (asksAt p) cmd ≡ cmd
 ended-fills First cmd e = absurd (true≢false e)
 ended-fills Clear cmd e = absurd (true≢false e)
 ended-fills Second cmd e = absurd (true≢false e)

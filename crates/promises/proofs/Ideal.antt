@@ -12,7 +12,7 @@ use Rattle.get_status.specs.Names.{stateOf, stateByte, settled}
 use Rattle.get_status.specs.declared.State.{State}
 use Rattle.get_status.specs.declared.State.the-variants.{DfuIdle, DfuManifest}
 use Rattle.protocol.specs.declared.DfuProtocol.{DfuProtocol}
-use Rattle.session.specs.Machine.{Answer, count, reply, waited, wasReset, Work, waitAfter, told}
+use Rattle.session.specs.Machine.{Answer, Work, waitAfter, told}
 use Rattle.session.specs.Download.{download}
 use Rattle.session.specs.Start.{setupOf}
 use Rattle.session.specs.declared.Command.{Command}
@@ -26,26 +26,13 @@ use Rattle.session.specs.declared.Session.{Session}
 use Rattle.session.specs.declared.Todo.{Todo}
 use Rattle.session.specs.declared.Todo.the-variants.{Send, End as Ends, Refuse}
 use Rattle.session.specs.declared.start.DfuSansIo.{DfuSansIo}
-use Rattle.promises.specs.Run.{Event, World, opened, tell, wholeOf}
+use Rattle.promises.specs.Run.{Event, World, opened, tell}
 use Rattle.promises.specs.Fair.{awaited, heeded, heededBy, Fine, allowed, Fair, FairBy}
+use Rattle.promises.specs.Ideal.{ideal}
 use Rattle.promises.specs.Sent.{Begins}
 use Rattle.promises.proofs.Walk.{Claims, Holds, Wished, WaitingAt, ClaimAt, Good, tell-good, either-end}
 use Rattle.promises.proofs.Spends.{Any, any-fits}
 use Rattle.promises.proofs.Started.{started}
-
-abbrev showing : State → Answer
-showing st = reply (0 ∷ 0 ∷ 0 ∷ 0 ∷ stateByte st ∷ 0 ∷ [])
-
-abbrev pub ideal : Phase → Answer
-ideal First = showing DfuIdle
-ideal Clear = count 0
-ideal Second = showing DfuIdle
-ideal (Sent c) = count (wholeOf c)
-ideal (Waiting (Pause b t ms)) = waited
-ideal (Waiting (Poll b t)) = showing t
-ideal Resetting = wasReset
-ideal (Finished e) = waited
-ideal (Refused e) = waited
 
 -- its answers to n asks
 unfoldable pub ideals : Work → Session → ℕ → List Answer

@@ -12,6 +12,7 @@ pub mod Finishes
 pub mod Whole
 pub mod Spends
 pub mod Calls
+pub mod Unfilled
 pub mod Real
 pub mod Unlent
 pub mod Lives

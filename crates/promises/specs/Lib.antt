@@ -8,5 +8,6 @@ pub mod Sent
 pub mod Whole
 pub mod Fair
 pub mod Finish
+pub mod Ideal
 pub mod Machines
 pub mod Starred

@@ -1,0 +1,86 @@
+-- Only a reply leads to a command: every other answer leaves the command bytes as they were lent, as the calls that take them shared say. Assumes nothing.
+use Prim.Native.Nat.{ℕ, zero, suc}
+use mathlib.Core.Path.{_≡_, refl, ap}
+use mathlib.Core.List.{List}
+use lib.ListN.{length}
+use Rattle.ground.proofs.Tests.{picked}
+use Rattle.session.specs.Machine.{Answer, count, reply, waited, wasReset, failed, Work, issue, waitAfter, asksAt, toldAt, told}
+use Rattle.session.specs.Download.{download, liveb, asAtStart, guardOf, through, called, filledBy, filled, out, callOf}
+use Rattle.session.specs.declared.Command.{Command}
+use Rattle.session.specs.declared.Command.the-variants.{Erase, SetAddress, Block, Empty}
+use Rattle.session.specs.declared.Request.the-variants.{GetStatus}
+use Rattle.session.specs.declared.Wait.the-variants.{Pause, Poll}
+use Rattle.session.specs.declared.Guard.{Guard}
+use Rattle.session.specs.declared.Phase.{Phase}
+use Rattle.session.specs.declared.Phase.the-variants.{First, Clear, Second, Sent, Waiting, Resetting, Finished, Refused}
+use Rattle.session.specs.declared.Progress.{Progress}
+use Rattle.session.specs.declared.Setup.{Setup}
+use Rattle.session.specs.declared.Session.{Session}
+use Rattle.session.specs.declared.Ask.the-variants.{Transfer}
+use Rattle.promises.specs.Calls.{Unreplied}
+use Rattle.promises.proofs.Calls.{ended-fills}
+
+-- a GETSTATUS, or a refusal in its place
+issue-unfilled : (su : Setup) (pr then : Progress) (l : ℕ) (p : Phase) (cmd : List ℕ) → asksAt p ≡ Transfer GetStatus
+    → filledBy (asksAt ((issue su pr l then p) .phase)) cmd ≡ cmd
+issue-unfilled su pr then zero p cmd e = refl
+issue-unfilled su pr then (suc l) p cmd e = rw e
+
+wait-unfilled : (su : Setup) (c : Command) (cmd : List ℕ) → filledBy (asksAt (Waiting (waitAfter su c))) cmd ≡ cmd
+wait-unfilled su (Erase a) cmd = refl
+wait-unfilled su (SetAddress a) cmd = refl
+wait-unfilled su (Block n f m) cmd = refl
+wait-unfilled su (Empty n) cmd = refl
+
+unfilledAt : (w : Work) (su : Setup) (pr : Progress) (l : ℕ) (p : Phase) (a : Answer) (cmd : List ℕ) → Unreplied a
+    → filledBy ((toldAt w su pr l p a) .says) cmd ≡ cmd
+unfilledAt w su pr l First (count n) cmd v = refl
+unfilledAt w su pr l First (reply bs) cmd v = absurd v
+unfilledAt w su pr l First waited cmd v = refl
+unfilledAt w su pr l First wasReset cmd v = refl
+unfilledAt w su pr l First failed cmd v = refl
+unfilledAt w su pr l Clear (count n) cmd v = issue-unfilled su pr pr l Second cmd refl
+unfilledAt w su pr l Clear (reply bs) cmd v = absurd v
+unfilledAt w su pr l Clear waited cmd v = refl
+unfilledAt w su pr l Clear wasReset cmd v = refl
+unfilledAt w su pr l Clear failed cmd v = refl
+unfilledAt w su pr l Second (count n) cmd v = refl
+unfilledAt w su pr l Second (reply bs) cmd v = absurd v
+unfilledAt w su pr l Second waited cmd v = refl
+unfilledAt w su pr l Second wasReset cmd v = refl
+unfilledAt w su pr l Second failed cmd v = refl
+unfilledAt w su pr l (Sent c) (count n) cmd v = wait-unfilled su c cmd
+unfilledAt w su pr l (Sent c) (reply bs) cmd v = absurd v
+unfilledAt w su pr l (Sent c) waited cmd v = refl
+unfilledAt w su pr l (Sent c) wasReset cmd v = refl
+unfilledAt w su pr l (Sent c) failed cmd v = refl
+unfilledAt w su pr l (Waiting (Pause b t ms)) (count n) cmd v = refl
+unfilledAt w su pr l (Waiting (Pause b t ms)) (reply bs) cmd v = absurd v
+unfilledAt w su pr l (Waiting (Pause b t ms)) waited cmd v = issue-unfilled su pr pr l (Waiting (Poll b t)) cmd refl
+unfilledAt w su pr l (Waiting (Pause b t ms)) wasReset cmd v = refl
+unfilledAt w su pr l (Waiting (Pause b t ms)) failed cmd v = refl
+unfilledAt w su pr l (Waiting (Poll b t)) (count n) cmd v = refl
+unfilledAt w su pr l (Waiting (Poll b t)) (reply bs) cmd v = absurd v
+unfilledAt w su pr l (Waiting (Poll b t)) waited cmd v = refl
+unfilledAt w su pr l (Waiting (Poll b t)) wasReset cmd v = refl
+unfilledAt w su pr l (Waiting (Poll b t)) failed cmd v = refl
+unfilledAt w su pr l Resetting (count n) cmd v = refl
+unfilledAt w su pr l Resetting (reply bs) cmd v = absurd v
+unfilledAt w su pr l Resetting waited cmd v = refl
+unfilledAt w su pr l Resetting wasReset cmd v = refl
+unfilledAt w su pr l Resetting failed cmd v = refl
+unfilledAt w su pr l (Finished e) a cmd v = refl
+unfilledAt w su pr l (Refused e) a cmd v = refl
+
+-- ONLY REPLIES FILL
+pub only-replies-fill : (fw ps cmd : List ℕ) (s : Session) (a : Answer) → Unreplied a → callOf fw ps cmd s a ≡ out (called (length fw) ps (length cmd) s a) cmd
+unfolding callOf called guardOf told
+only-replies-fill fw ps cmd s a v =
+    picked P (liveb (s .phase)) _ _
+    (λ e. picked P (asAtStart (s .setup) (length fw) (length ps) (length cmd)) _ _
+    (λ f. ap (λ (x : List ℕ). out (told (download ps) s a) x) (unfilledAt (download ps) (s .setup) (s .progress) (s .left) (s .phase) a cmd v))
+    (λ f. refl))
+    (λ e. ap (λ (x : List ℕ). out (record { next = s; says = asksAt (s .phase) }) x) (ended-fills (s .phase) cmd e))
+  where
+    P : Guard → Type 0
+    P g = filled (through g s (told (download ps) s a)) cmd ≡ out (through g s (told (download ps) s a)) cmd

@@ -1,0 +1,26 @@
+-- A device and a host that answer at once: each awaited answer, by the phase.
+use mathlib.Core.List.{[], _∷_}
+use Rattle.get_status.specs.Names.{stateByte}
+use Rattle.get_status.specs.declared.State.{State}
+use Rattle.get_status.specs.declared.State.the-variants.{DfuIdle}
+use Rattle.session.specs.Machine.{Answer, count, reply, waited, wasReset}
+use Rattle.session.specs.declared.Wait.the-variants.{Pause, Poll}
+use Rattle.session.specs.declared.Phase.{Phase}
+use Rattle.session.specs.declared.Phase.the-variants.{First, Clear, Second, Sent, Waiting, Resetting, Finished, Refused}
+use Rattle.promises.specs.Run.{wholeOf}
+
+-- a reply that shows a state
+abbrev pub showing : State → Answer
+showing st = reply (0 ∷ 0 ∷ 0 ∷ 0 ∷ stateByte st ∷ 0 ∷ [])
+
+-- idle in the opening, a full count, the target of a wait, the reset done; an ended session may be told anything
+abbrev pub ideal : Phase → Answer
+ideal First = showing DfuIdle
+ideal Clear = count 0
+ideal Second = showing DfuIdle
+ideal (Sent c) = count (wholeOf c)
+ideal (Waiting (Pause b t ms)) = waited
+ideal (Waiting (Poll b t)) = showing t
+ideal Resetting = wasReset
+ideal (Finished e) = waited
+ideal (Refused e) = waited

@@ -1,0 +1,117 @@
+// Two functions for a benchmark in another language to call: a layout's reading, and a whole session.
+ghost use mathlib.Core.Path.{_≡_};
+ghost use Rattle.memory_layout.specs.Layout.{layoutOf, saidError};
+ghost use Rattle.speed.specs.Speed.{numberOf, told, toldOf};
+use functional_descriptor::FunctionalDescriptor;
+use ground::Version;
+use memory_layout::Error;
+use memory_layout::MemoryLayout;
+use protocol::DfuProtocol;
+use session::Ask;
+use session::Phase;
+use session::Session;
+use session::start::DfuSansIo;
+use session::start::Started;
+
+// What is added to a refusal's number: 2^63, which no number of pages reaches.
+const REFUSED: u64 = 9223372036854775808;
+
+// The most calls that a session is given.
+const MOST_CALLS: u64 = 1000000;
+
+// Document 01's number of a refusal.
+fn refusal(error: Error) -> u8
+    ensures { λ r. ⌜ r ≡ saidError error .number ⌝ }
+{
+    match error {
+        Error::InvalidPageFormat { at: _, len: _ } => 9,
+        Error::ParseErrorPageCount { at: _, len: _ } => 10,
+        Error::ParseErrorPageSize { at: _, len: _ } => 11,
+        Error::InvalidPrefix { at: _, len: _ } => 12,
+        Error::TextTooLong => 20,
+        Error::PageTooLarge => 21,
+        Error::TooManyPages => 22,
+    }
+}
+
+// How many pages, or a refusal.
+fn number(layout: MemoryLayout) -> u64
+    ensures { λ r. ⌜ r ≡ numberOf layout ⌝ }
+{
+    match layout {
+        MemoryLayout::Pages(n) => n as u64,
+        MemoryLayout::Refused(error) => REFUSED + (refusal(error) as u64),
+    }
+}
+
+// Reads a layout's text into a store: how many pages it has, or 2^63 plus the number of the refusal.
+#[no_mangle]
+pub extern "C" fn rt_layout(text: &[u8], store: &mut [u32]) -> u64
+    ensures { λ r. ⌜ told r (now (store .exit)) ≡ toldOf (layoutOf (now (text .entry)) (now (store .entry))) ⌝ }
+{
+    let layout = MemoryLayout::try_from(text, store);
+    number(layout)
+}
+
+// From here on: a harness for the benchmark. Its functions are proved safe and ending; their answers have no contract.
+// A DfuSe session for a device with a transfer size that stays on the bus, its budget as large as can be.
+fn started(firmware: &[u8], pages: &[u32], address: u32, size: u16) -> Started {
+    let descriptor = FunctionalDescriptor {
+        can_download: true,
+        can_upload: false,
+        manifestation_tolerant: true,
+        will_detach: false,
+        detach_timeout: 0,
+        transfer_size: size,
+        dfu_version: Version(1, 0x1a),
+    };
+    let io = DfuSansIo::new(descriptor);
+    io.download(DfuProtocol::Dfuse { address }, firmware, pages, u64::MAX)
+}
+
+// Whether a finish or a refusal was said.
+fn is_end(says: Ask) -> bool {
+    match says {
+        Ask::Transfer(_) => false,
+        Ask::Wait(_) => false,
+        Ask::Reset => false,
+        Ask::Finished(_) => true,
+        Ask::Refused(_) => true,
+    }
+}
+
+// The transfers that a finished session has asked, what is gone of its budget; 0 for any other.
+fn asked(session: Session) -> u64 {
+    let phase = session.phase;
+    match phase {
+        Phase::Finished(_) => u64::MAX - session.left,
+        _ => 0,
+    }
+}
+
+// Runs a session to its end, which has to come within the most calls.
+fn run(session: Session, firmware: &[u8], pages: &[u32]) -> u64 {
+    let mut command = [0u8; 5];
+    let mut session = session;
+    let mut calls: u64 = 0;
+    while calls < MOST_CALLS {
+        let step = at_once::told(session, firmware, pages, &mut command);
+        session = step.next;
+        let says = step.says;
+        if is_end(says) {
+            return asked(session);
+        }
+        calls += 1;
+    }
+    asked(session)
+}
+
+// A whole DfuSe session against a device that answers at once: how many transfers it asked. 0 if start refuses or a refusal came.
+#[no_mangle]
+pub extern "C" fn rt_session(firmware: &[u8], pages: &[u32], address: u32, size: u16) -> u64 {
+    let started = started(firmware, pages, address, size);
+    match started {
+        Started::Refused(_) => 0,
+        Started::Session(session) => run(session, firmware, pages),
+    }
+}
