@@ -1,0 +1,50 @@
+-- `rehearse::words::all` is safe and ends: each turn reads a word.
+use Prim.Native.Nat.{_-_}
+use borrow.Author.Needs.{needs}
+use Rattle.rehearse.proofs.words.all.Statement.{statement}
+use Rattle.rehearse.proofs.words.all.Tie as tie
+
+abbrev Inv-loop : tie.InvT-loop
+Inv-loop count words₀ at₀ words at = Unit {0}
+
+abbrev μ-loop : tie.MeasureT-loop
+μ-loop count words₀ at₀ words at = count - at
+
+none-requires : tie.Need-none-requires Inv-loop μ-loop
+none-requires c κs = search needs
+
+loop-holds : tie.Need-loop-holds Inv-loop μ-loop
+loop-holds c = search needs
+
+next-requires : tie.Need-next-requires Inv-loop μ-loop
+next-requires c κs = search needs
+
+returns : tie.Need-returns Inv-loop μ-loop
+returns c = search needs
+
+add-at : tie.Need-add-at Inv-loop μ-loop
+add-at c = search needs
+
+loop-less : tie.Need-loop-less Inv-loop μ-loop
+loop-less c = search needs
+
+loop-again : tie.Need-loop-again Inv-loop μ-loop
+loop-again c = search needs
+
+returns-2 : tie.Need-returns-2 Inv-loop μ-loop
+returns-2 c = search needs
+
+pub all-spec : {M : Type 1} → statement M
+all-spec =
+    tie.close
+    (tie.spec
+    Inv-loop
+    μ-loop
+    none-requires
+    loop-holds
+    next-requires
+    returns
+    add-at
+    loop-less
+    loop-again
+    returns-2)
