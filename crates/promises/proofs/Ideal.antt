@@ -5,7 +5,6 @@ use mathlib.Core.Path.{_≡_, refl, ap, subst, sym}
 use mathlib.Core.Logic.{inl, ⊎-elim}
 use mathlib.Core.Bool.{true}
 use mathlib.Core.List.{List, [], _∷_}
-use lib.Dec.{eqb}
 use lib.ListN.{length}
 use Rattle.ground.proofs.Tests.{picked}
 use Rattle.get_status.specs.Names.{stateOf, stateByte, settled}
@@ -23,14 +22,13 @@ use Rattle.session.specs.declared.Phase.the-variants.{First, Clear, Second, Sen
 use Rattle.session.specs.declared.Progress.{Progress}
 use Rattle.session.specs.declared.Setup.{Setup}
 use Rattle.session.specs.declared.Session.{Session}
-use Rattle.session.specs.declared.Todo.{Todo}
-use Rattle.session.specs.declared.Todo.the-variants.{Send, End as Ends, Refuse}
 use Rattle.session.specs.declared.start.DfuSansIo.{DfuSansIo}
 use Rattle.promises.specs.Run.{Event, World, opened, tell}
 use Rattle.promises.specs.Fair.{awaited, heeded, heededBy, Fine, allowed, Fair, FairBy}
 use Rattle.promises.specs.Ideal.{ideal}
 use Rattle.promises.specs.Sent.{Begins}
-use Rattle.promises.proofs.Walk.{Claims, Holds, Wished, WaitingAt, ClaimAt, Good, tell-good, either-end}
+use Rattle.promises.proofs.Walk.{Claims, Holds, ClaimAt, Good, tell-good, either-end}
+use Rattle.promises.proofs.Lasting.{lasting, OfWait, lasting-holds, unit-wish}
 use Rattle.promises.proofs.Spends.{Any, any-fits}
 use Rattle.promises.proofs.Started.{started}
 
@@ -44,53 +42,19 @@ abbrev Shown : State → Type 0
 Shown t = stateByte (settled (stateOf (stateByte t))) ≡ stateByte t
 
 abbrev sane : Claims
-sane = record {
-  atFirst = λ pr l h. Unit;
-  atClear = λ pr l h. Unit;
-  atSecond = λ pr l h. Unit;
-  atWish = λ pr l h. Unit;
-  pausing = λ b t pr l h. Shown t;
-  looking = λ b t pr l h. Shown t;
-  resetting = λ l h. Unit;
-  finished = λ e l h. Unit;
-  refused = λ e l h. Unit;
-  always = λ l h. Unit;
-}
+sane = lasting (λ b t. Shown t) Unit (λ e. Unit) (λ e. Unit)
 
 module _ (w : Work) (su : Setup) where
-  waits : (c : Command) (pr : Progress) (l : ℕ) (h : List Event) → WaitingAt w su Any sane (waitAfter su c) pr l h
-  waits (Erase a) pr l h = refl
-  waits (SetAddress a) pr l h = refl
-  waits (Block n f m) pr l h = refl
-  waits (Empty n) pr l h = picked Shown (su .tolerant) DfuIdle DfuManifest (λ e. refl) (λ e. refl)
-
-  wished : (l : ℕ) (h : List Event) (t : Todo) → Wished w su Any sane l h t
-  wished l h (Send c then) = λ m e. (tt, λ n u. waits c (w .took su then c n) m _)
-  wished l h Ends = either-end w su Any sane l h tt tt
-  wished l h (Refuse e) = tt
+  waits : (c : Command) → OfWait (λ b t. Shown t) Unit (λ e. Unit) (λ e. Unit) (waitAfter su c)
+  waits (Erase a) = refl
+  waits (SetAddress a) = refl
+  waits (Block n f m) = refl
+  waits (Empty n) = picked Shown (su .tolerant) DfuIdle DfuManifest (λ e. refl) (λ e. refl)
 
   holds : Holds w su Any sane
-  holds = record {
-    first = λ pr l h st v. picked (λ (X : Type 0). X) (eqb st 10) _ _ (λ e. tt) (λ e. tt);
-    clear = λ pr l h v. tt;
-    second = λ pr l h v. tt;
-    wish = λ pr l h v. wished l h (w .next su pr);
-    look = λ b t pr l h v. v;
-    busy = λ b t pr l h v. v;
-    settle = λ b t pr l h v. tt;
-    reset = λ l h v. tt;
-    cutFirst = λ pr l h v. tt;
-    cutClear = λ pr l h v. tt;
-    cutSecond = λ pr l h v. tt;
-    cutWish = λ pr l h v. tt;
-    cutPausing = λ b t pr l h v. tt;
-    cutLooking = λ b t pr l h v. tt;
-    cutResetting = λ l h v. tt;
-    cutFinished = λ e l h v. tt;
-    cutRefused = λ e l h v. tt;
-    deny = λ e l h d v. tt;
-    hear = λ l h st v. tt;
-  }
+  holds =
+      lasting-holds _ _ _ _ w su
+      (record { waits = waits; ends = λ l h. either-end w su Any sane l h tt tt; reset = λ v. tt; wishes = λ pr. unit-wish (w .next su pr); denies = λ e d. tt })
 
   fine : (j : ℕ) (p : Phase) (pr : Progress) (l : ℕ) (h : List Event) → ClaimAt w su Any sane p pr l h → Fine j p (ideal p)
   fine j First pr l h v = (le-refl _, tt)

@@ -14,6 +14,7 @@ pub mod Spends
 pub mod Calls
 pub mod Unfilled
 pub mod Real
+pub mod Lasting
 pub mod Unlent
 pub mod Lives
 pub mod Roomy

@@ -4,7 +4,7 @@ use native.Mathlib.Omega.{arith}
 use mathlib.Core.Path.{_≡_, refl, ap, sym, subst, _∙_}
 use mathlib.Core.Logic.{⊎-elim}
 use mathlib.Core.List.{List}
-use lib.Dec.{eqb, ltb}
+use lib.Dec.{ltb}
 use lib.ListN.{length, getD}
 use Rattle.ground.proofs.Tests.{picked}
 use Rattle.protocol.specs.declared.DfuProtocol.{DfuProtocol}
@@ -27,70 +27,39 @@ use Rattle.session.specs.declared.start.DfuSansIo.{DfuSansIo}
 use Rattle.promises.specs.Run.{Event, opened, after, World, tell}
 use Rattle.promises.specs.Calls.{Call, outcome, calls, Lends, AllLend, answers}
 use Rattle.promises.specs.Sent.{Begins}
-use Rattle.promises.proofs.Walk.{Claims, Ending, Holds, Wished, ClaimAt, Good, tell-good, run-good, either-end}
+use Rattle.promises.proofs.Walk.{Claims, Ending, Holds, ClaimAt, Good, tell-good, run-good, either-end}
+use Rattle.promises.proofs.Lasting.{lasting, OfWish, lasting-holds, unit-waits}
 use Rattle.promises.proofs.Spends.{Any, any-fits, all-fit}
 use Rattle.promises.proofs.Started.{started}
 use Rattle.promises.proofs.Real.{For, same-calls, same-step, answers-told}
 
 -- a refused session was refused by one of the refusals that end a session
 abbrev unlent : Claims
-unlent = record {
-  atFirst = λ pr l h. Unit;
-  atClear = λ pr l h. Unit;
-  atSecond = λ pr l h. Unit;
-  atWish = λ pr l h. Unit;
-  pausing = λ b t pr l h. Unit;
-  looking = λ b t pr l h. Unit;
-  resetting = λ l h. Unit;
-  finished = λ e l h. Unit;
-  refused = λ e l h. Ending e;
-  always = λ l h. Unit;
-}
+unlent = lasting (λ b t. Unit) Unit (λ e. Unit) Ending
 
 module _ (ps : List ℕ) (su : Setup) where
-  wishedAt : (st : Stage) (pr : Progress) (l : ℕ) (h : List Event) → Wished (download ps) su Any unlent l h (nextAt st ps su pr)
+  abbrev Wish : Todo → Type 0
+  Wish t = OfWish (λ b t. Unit) Unit (λ e. Unit) Ending t
+
+  wishes : (st : Stage) (pr : Progress) → Wish (nextAt st ps su pr)
   unfolding eraseNext writeNext
-  wishedAt Erasing pr l h =
-      picked P (ltb (pr .erased) (endOf su)) _ _
-      (λ e. picked P (ltb (pr .page) (length ps)) _ _
-      (λ f. picked P (ltb (pr .erased + getD ps (pr .page) 0) limit) _ _ (λ g m z. (tt, λ n u. tt)) (λ g. tt))
+  wishes Erasing pr =
+      picked Wish (ltb (pr .erased) (endOf su)) _ _
+      (λ e. picked Wish (ltb (pr .page) (length ps)) _ _
+      (λ f. picked Wish (ltb (pr .erased + getD ps (pr .page) 0) limit) _ _ (λ g. tt) (λ g. tt))
       (λ f. tt))
-      (λ e m z. (tt, λ n u. tt))
-    where
-      P : Todo → Type 0
-      P t = Wished (download ps) su Any unlent l h t
-  wishedAt Writing pr l h =
-      picked P (ltb (pr .place) (su .length)) _ _
-      (λ e. picked P (ltb (pr .copied + blockLength su (pr .place)) limit) _ _ (λ g m z. (tt, λ n u. tt)) (λ g. tt))
-      (λ e m z. (tt, λ n u. tt))
-    where
-      P : Todo → Type 0
-      P t = Wished (download ps) su Any unlent l h t
-  wishedAt Closing pr l h = either-end (download ps) su Any unlent l h tt tt
+      (λ e. tt)
+  wishes Writing pr =
+      picked Wish (ltb (pr .place) (su .length)) _ _
+      (λ e. picked Wish (ltb (pr .copied + blockLength su (pr .place)) limit) _ _ (λ g. tt) (λ g. tt))
+      (λ e. tt)
+  wishes Closing pr = tt
 
   holds : Holds (download ps) su Any unlent
   unfolding nextOf
-  holds = record {
-    first = λ pr l h st v. picked (λ (X : Type 0). X) (eqb st 10) _ _ (λ e. tt) (λ e. tt);
-    clear = λ pr l h v. tt;
-    second = λ pr l h v. tt;
-    wish = λ pr l h v. wishedAt (pr .stage) pr l h;
-    look = λ b t pr l h v. tt;
-    busy = λ b t pr l h v. tt;
-    settle = λ b t pr l h v. tt;
-    cutFirst = λ pr l h v. tt;
-    cutClear = λ pr l h v. tt;
-    cutSecond = λ pr l h v. tt;
-    cutWish = λ pr l h v. tt;
-    cutPausing = λ b t pr l h v. tt;
-    cutLooking = λ b t pr l h v. tt;
-    reset = λ l h v. tt;
-    cutResetting = λ l h v. tt;
-    cutFinished = λ e l h v. tt;
-    cutRefused = λ e l h v. tt;
-    deny = λ e l h d v. d;
-    hear = λ l h st v. tt;
-  }
+  holds =
+      lasting-holds _ _ _ _ (download ps) su
+      (record { waits = unit-waits su; ends = λ l h. either-end (download ps) su Any unlent l h tt tt; reset = λ v. tt; wishes = λ pr. wishes (pr .stage) pr; denies = λ e d. d })
 
   -- such a session doesn't say 25
   says-other : (p : Phase) (pr : Progress) (l : ℕ) (h : List Event) → ClaimAt (download ps) su Any unlent p pr l h → asksAt p ≡ SaysNo NotAsAtStart → ⊥

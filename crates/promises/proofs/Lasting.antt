@@ -1,0 +1,101 @@
+-- Claims that no event changes: of the states of a wait, of a reset that is awaited, of an end, of a refusal. Assumes nothing.
+use Prim.Native.Nat.{ℕ}
+use mathlib.Core.List.{List}
+use lib.Dec.{eqb}
+use Rattle.ground.proofs.Tests.{picked}
+use Rattle.get_status.specs.declared.State.{State}
+use Rattle.session.specs.Machine.{Work, endPhase, waitAfter}
+use Rattle.session.specs.declared.Command.{Command}
+use Rattle.session.specs.declared.Command.the-variants.{Erase, SetAddress, Block, Empty}
+use Rattle.session.specs.declared.Wait.{Wait}
+use Rattle.session.specs.declared.Wait.the-variants.{Pause, Poll}
+use Rattle.session.specs.declared.Error.{Error}
+use Rattle.session.specs.declared.End.{End}
+use Rattle.session.specs.declared.End.the-variants.{Reset}
+use Rattle.session.specs.declared.Progress.{Progress}
+use Rattle.session.specs.declared.Setup.{Setup}
+use Rattle.session.specs.declared.Todo.{Todo}
+use Rattle.session.specs.declared.Todo.the-variants.{Send, End as Ends, Refuse}
+use Rattle.promises.specs.Run.{Event}
+use Rattle.promises.proofs.Walk.{Claims, Ending, Holds, Wished, EndAt, WaitingAt}
+use Rattle.promises.proofs.Spends.{Any}
+
+module _ (W : State → State → Type 0) (R : Type 0) (F : End → Type 0) (D : Error → Type 0) where
+  abbrev pub lasting : Claims
+  lasting = record {
+    atFirst = λ pr l h. Unit;
+    atClear = λ pr l h. Unit;
+    atSecond = λ pr l h. Unit;
+    atWish = λ pr l h. Unit;
+    pausing = λ b t pr l h. W b t;
+    looking = λ b t pr l h. W b t;
+    resetting = λ l h. R;
+    finished = λ e l h. F e;
+    refused = λ e l h. D e;
+    always = λ l h. Unit;
+  }
+
+  abbrev pub OfWait : Wait → Type 0
+  OfWait (Pause b t ms) = W b t
+  OfWait (Poll b t) = W b t
+
+  abbrev pub OfWish : Todo → Type 0
+  OfWish (Send c then) = Unit
+  OfWish Ends = Unit
+  OfWish (Refuse e) = D e
+
+  -- what is asked of them: each wait begins with its claim, the end has its own, and so has every refusal
+  pub record Lasts (w : Work) (su : Setup) : Type 0 where
+    pub waits : (c : Command) → OfWait (waitAfter su c)
+    pub ends : (l : ℕ) (h : List Event) → EndAt w su Any lasting (endPhase su) l h
+    pub reset : R → F Reset
+    pub wishes : (pr : Progress) → OfWish (w .next su pr)
+    pub denies : (e : Error) → Ending e → D e
+
+  module _ (w : Work) (su : Setup) (g : Lasts w su) where
+    waiting : (c : Command) (pr : Progress) (l : ℕ) (h : List Event) → OfWait (waitAfter su c) → WaitingAt w su Any lasting (waitAfter su c) pr l h
+    waiting (Erase a) pr l h v = v
+    waiting (SetAddress a) pr l h v = v
+    waiting (Block n f m) pr l h v = v
+    waiting (Empty n) pr l h v = v
+
+    wished : (l : ℕ) (h : List Event) (t : Todo) → OfWish t → Wished w su Any lasting l h t
+    wished l h (Send c then) v = λ m e. (tt, λ n u. waiting c (w .took su then c n) m _ (g .waits c))
+    wished l h Ends v = g .ends l h
+    wished l h (Refuse e) v = v
+
+    pub lasting-holds : Holds w su Any lasting
+    lasting-holds = record {
+      first = λ pr l h st v. picked (λ (X : Type 0). X) (eqb st 10) _ _ (λ e. tt) (λ e. tt);
+      clear = λ pr l h v. tt;
+      second = λ pr l h v. tt;
+      wish = λ pr l h v. wished l h (w .next su pr) (g .wishes pr);
+      look = λ b t pr l h v. v;
+      busy = λ b t pr l h v. v;
+      settle = λ b t pr l h v. tt;
+      reset = λ l h v. g .reset v;
+      cutFirst = λ pr l h v. tt;
+      cutClear = λ pr l h v. tt;
+      cutSecond = λ pr l h v. tt;
+      cutWish = λ pr l h v. tt;
+      cutPausing = λ b t pr l h v. tt;
+      cutLooking = λ b t pr l h v. tt;
+      cutResetting = λ l h v. tt;
+      cutFinished = λ e l h v. tt;
+      cutRefused = λ e l h v. tt;
+      deny = λ e l h d v. g .denies e d;
+      hear = λ l h st v. tt;
+    }
+
+-- wishes of whose refusals nothing is claimed
+pub unit-wish : (t : Todo) → OfWish (λ b t. Unit) Unit (λ e. Unit) (λ e. Unit) t
+unit-wish (Send c then) = tt
+unit-wish Ends = tt
+unit-wish (Refuse e) = tt
+
+-- waits of which nothing is claimed
+pub unit-waits : (su : Setup) (c : Command) → OfWait (λ b t. Unit) Unit (λ e. Unit) (λ e. Unit) (waitAfter su c)
+unit-waits su (Erase a) = tt
+unit-waits su (SetAddress a) = tt
+unit-waits su (Block n f m) = tt
+unit-waits su (Empty n) = tt
