@@ -7,9 +7,9 @@ use mathlib.Core.List.{List, [], _∷_, _++_, map}
 use lib.ListN.{length, getD, length-append, length-map}
 use Rattle.ground.specs.Bytes.{littleEndian, field, bytesLow}
 use Rattle.protocol.specs.declared.DfuProtocol.the-variants.{Dfu, Dfuse}
-use Rattle.session.specs.Machine.{Answer, count, reply, waited, mk, onFirst, onSecond, onPoll, told}
+use Rattle.session.specs.Machine.{Answer, count, waited, mk, onFirst, onSecond, onPoll, told}
 use Rattle.session.specs.Download.{download, covering, eraseNext, writeNext, nextOf, tookOf}
-use Rattle.session.specs.Start.{newIo, setupOf, fresh, begunOf, beginOf}
+use Rattle.session.specs.Start.{setupOf, fresh, begunOf, beginOf}
 use Rattle.session.specs.declared.Request.the-variants.{GetStatus}
 use Rattle.session.specs.declared.End.{End}
 use Rattle.session.specs.declared.Phase.the-variants.{First, Finished}
@@ -22,6 +22,7 @@ use Rattle.promises.specs.Run.{Event, sends, hears, opened, afterBy, inT
 use Rattle.promises.specs.Sent.{onWire, planOf}
 use Rattle.promises.specs.Whole.{opening, busyAfter, targetAfter, looks, Round, roundOf, rounds, requestOf, Listed}
 use Rattle.promises.specs.Fair.{heededBy, FairBy, Ready}
+use Rattle.promises.specs.Samples.{deviceOf, shows}
 use Rattle.promises.specs.Machines.{ours, SendsThePlan, LeadsThePlan, ListsAll, Starts, Finishing, Sufficing, Spends, refusing, fixed, idle, hasty, blind, inventive, numberedFromThree, onePageMore, addressTwice}
 use Rattle.promises.proofs.Started.{start-adds}
 use Rattle.promises.proofs.Finishes.{finished-sends-the-plan, every-run-leads-the-plan}
@@ -57,17 +58,7 @@ ours-spends io p fw ps budget s more b = run-adds (download ps) (opened s) more 
 
 -- two small updates: one byte, plain, and one byte to two pages of one byte
 abbrev sample : DfuSansIo
-sample =
-    newIo
-    (record {
-      «can_download» = true;
-      «can_upload» = true;
-      «manifestation_tolerant» = true;
-      «will_detach» = false;
-      «detach_timeout» = 0;
-      «transfer_size» = 8;
-      «dfu_version» = record { 0 = 1; 1 = 0x10 };
-    })
+sample = deviceOf true false 8
 
 ready : Ready sample Dfu (7 ∷ []) []
 ready = record { some = omega arith; short = omega arith; sized = omega arith; few = λ e. absurd (true≢false (sym e)); covered = λ e. absurd (true≢false (sym e)); below = λ e. absurd (true≢false (sym e)) }
@@ -78,10 +69,7 @@ begunPlain = mk (setupOf sample Dfu 1 0) (fresh (setupOf sample Dfu 1 0)) 99 Fir
 abbrev begunDfuse : Session
 begunDfuse = mk (setupOf sample (Dfuse 0) 1 2) (fresh (setupOf sample (Dfuse 0) 1 2)) 99 First
 
--- a reply with a state; a request that is taken whole, waited for and answered
-abbrev shows : ℕ → Answer
-shows b = reply (0 ∷ 0 ∷ 0 ∷ 0 ∷ b ∷ 0 ∷ [])
-
+-- a request that is taken whole, waited for and answered
 abbrev round : ℕ → ℕ → List Answer → List Answer
 round n b more = count n ∷ waited ∷ shows b ∷ more
 

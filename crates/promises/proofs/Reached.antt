@@ -8,9 +8,9 @@ use mathlib.Core.List.{List, [], _∷_}
 use lib.ListN.{length}
 use Rattle.ground.specs.Bytes.{littleEndian, field}
 use Rattle.protocol.specs.declared.DfuProtocol.the-variants.{Dfuse}
-use Rattle.session.specs.Machine.{Answer, count, reply, waited, mk, onFirst, onSecond, onPoll, told}
+use Rattle.session.specs.Machine.{Answer, count, waited, mk, onFirst, onSecond, onPoll, told}
 use Rattle.session.specs.Download.{download, covering, eraseNext, writeNext, nextOf, tookOf}
-use Rattle.session.specs.Start.{newIo, setupOf, fresh, begunOf, beginOf}
+use Rattle.session.specs.Start.{setupOf, fresh, begunOf, beginOf}
 use Rattle.session.specs.declared.Error.the-variants.{BudgetSpent}
 use Rattle.session.specs.declared.End.the-variants.{Stays}
 use Rattle.session.specs.declared.Phase.the-variants.{First, Finished, Refused}
@@ -19,30 +19,18 @@ use Rattle.session.specs.declared.start.DfuSansIo.{DfuSansIo}
 use Rattle.promises.specs.Plan.{blockCount}
 use Rattle.promises.specs.Run.{opened, after, afterBy, transfers, cleared}
 use Rattle.promises.specs.Sent.{Begins}
+use Rattle.promises.specs.Samples.{deviceOf, shows}
 use Rattle.promises.specs.Fair.{Fair, FairBy, requestsOf, bound}
 
 -- a tolerant device, one byte, two pages of one byte
 abbrev counter : DfuSansIo
-counter =
-    newIo
-    (record {
-      «can_download» = true;
-      «can_upload» = true;
-      «manifestation_tolerant» = true;
-      «will_detach» = false;
-      «detach_timeout» = 0;
-      «transfer_size» = 8;
-      «dfu_version» = record { 0 = 1; 1 = 0x1a };
-    })
+counter = deviceOf true false 8
 
 abbrev pages : List ℕ
 pages = 1 ∷ 1 ∷ []
 
 abbrev begunWith : ℕ → Session
 begunWith l = mk (setupOf counter (Dfuse 0) 1 2) (fresh (setupOf counter (Dfuse 0) 1 2)) l First
-
-abbrev shows : ℕ → Answer
-shows b = reply (0 ∷ 0 ∷ 0 ∷ 0 ∷ b ∷ 0 ∷ [])
 
 -- a request, two busy replies, the target
 abbrev slow : ℕ → ℕ → ℕ → List Answer → List Answer

@@ -10,4 +10,5 @@ pub mod Fair
 pub mod Finish
 pub mod Ideal
 pub mod Machines
+pub mod Samples
 pub mod Starred

@@ -21,10 +21,11 @@ use Rattle.session.specs.declared.Phase.the-variants.{Finished, Refused as Ende
 use Rattle.session.specs.declared.start.DfuSansIo.{DfuSansIo}
 use Rattle.session.specs.declared.start.Started.{Started}
 use Rattle.session.specs.declared.start.Started.the-variants.{Session as Begun, Refused}
-use Rattle.session.specs.Machine.{Answer, reply, waited, wasReset, count as counts, mk, asksAt, saidAsk}
+use Rattle.session.specs.Machine.{Answer, waited, wasReset, count as counts, mk, asksAt, saidAsk}
 use Rattle.session.specs.Download.{download}
-use Rattle.session.specs.Start.{newIo, beginOf, saidStart}
+use Rattle.session.specs.Start.{beginOf, saidStart}
 use Rattle.promises.specs.Plan.{sum}
+use Rattle.promises.specs.Samples.{deviceOf, shows}
 use Rattle.promises.specs.Run.{opened, after, transfers}
 
 -- what a case comes to: a text read as document 01's number and values, with the bytes of all its pages; a start that says no; a run's
@@ -57,17 +58,7 @@ pub record Setting : Type 0 where
   pub budget : ℕ
 
 abbrev pub device : Setting → DfuSansIo
-device x =
-    newIo
-    (record {
-      «can_download» = true;
-      «can_upload» = true;
-      «manifestation_tolerant» = x .tolerant;
-      «will_detach» = x .detach;
-      «detach_timeout» = 0;
-      «transfer_size» = x .size;
-      «dfu_version» = record { 0 = 1; 1 = 0x10 };
-    })
+device x = deviceOf (x .tolerant) (x .detach) (x .size)
 
 abbrev pub begins : Setting → Started
 begins x = beginOf (device x) (x .protocol) (x .length) (count (x .pages)) (x .budget)
@@ -82,15 +73,12 @@ abbrev pub endOf : List ℕ → List Answer → Started → Outcome
 endOf ps more (Begun s) = ends (transfers ((after (download ps) (opened s) more) .past)) ((after (download ps) (opened s) more) .session)
 endOf ps more (Refused e) = unbegun (saidStart e)
 
--- a reply with a state; a write that is taken whole, waited for and answered with a state
-abbrev pub state : ℕ → Answer
-state b = reply (0 ∷ 0 ∷ 0 ∷ 0 ∷ b ∷ 0 ∷ [])
-
+-- a write that is taken whole, waited for and answered with a state
 abbrev pub write : ℕ → ℕ → List Answer → List Answer
-write n b more = counts n ∷ waited ∷ state b ∷ more
+write n b more = counts n ∷ waited ∷ shows b ∷ more
 
 abbrev pub idle : List Answer → List Answer
-idle more = state 2 ∷ state 2 ∷ more
+idle more = shows 2 ∷ shows 2 ∷ more
 
 -- a case: what is read, and what it is read as
 pub data Case : Type 0 where
