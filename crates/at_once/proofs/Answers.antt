@@ -8,9 +8,9 @@ use Rattle.session.specs.Download.{called, out, callOf}
 use Rattle.session.specs.declared.Phase.{Phase}
 use Rattle.session.specs.declared.Session.{Session}
 use Rattle.session.specs.declared.Step.{Step}
-use Rattle.promises.specs.Calls.{Unreplied}
-use Rattle.promises.specs.Ideal.{ideal}
-use Rattle.promises.proofs.Unfilled.{only-replies-fill}
+use Rattle.plan.specs.Answers.{Unreplied}
+use Rattle.plan.specs.Answers.{ideal}
+use Rattle.plan.proofs.Unfilled.{only-replies-fill}
 
 -- the phase that was met is the session's
 pub at-phase : (fw ps cmd : List ℕ) (s : Session) (p : Phase) → s .phase ≡ p → callOf fw ps cmd s (ideal p) ≡ callOf fw ps cmd s (ideal (s .phase))

@@ -1,8 +1,8 @@
 // A device and a host that answer at once: what programs tell a session that runs by itself.
 ghost use mathlib.Core.Path.{_≡_};
 ghost use Rattle.session.specs.Download.{out, callOf};
-ghost use Rattle.promises.specs.Run.{wholeOf};
-ghost use Rattle.promises.specs.Ideal.{showing, ideal};
+ghost use Rattle.plan.specs.Answers.{wholeOf};
+ghost use Rattle.plan.specs.Answers.{showing, ideal};
 use get_status::State;
 use session::Command;
 use session::Phase;

@@ -7,7 +7,7 @@ use Rattle.ground.specs.Pick.{pick}
 use Rattle.protocol.specs.declared.DfuProtocol.{DfuProtocol}
 use Rattle.session.specs.declared.start.DfuSansIo.{DfuSansIo}
 use Rattle.session.specs.Start.{dfuseb, overb}
-use Rattle.promises.specs.Plan.{commands}
+use Rattle.plan.specs.Plan.{commands}
 use Rattle.budget.specs.declared.Suffices.{Suffices}
 use Rattle.budget.specs.declared.Suffices.the-variants.{Budget, Never}
 

@@ -5,7 +5,7 @@ ghost use Prim.Native.Nat.{_<_, _≤_, _+_};
 ghost use lib.ListN.{length};
 ghost use Rattle.session.specs.Start.{dfuseb, overb};
 ghost use Rattle.memory_layout.specs.Layout.{maxPages};
-ghost use Rattle.promises.specs.Plan.{blockCount, commands};
+ghost use Rattle.plan.specs.Plan.{blockCount, commands};
 ghost use Rattle.budget.specs.Enough.{enoughFor, counted, enoughOf};
 use memory_layout::MAX_PAGES;
 use protocol::DfuProtocol;

@@ -7,7 +7,7 @@ use lib.ListN.{length}
 use Rattle.ground.specs.Pick.{pick}
 use Rattle.ground.proofs.Tests.{picked}
 use Rattle.session.specs.Machine.{asksAt, told}
-use Rattle.session.specs.Download.{download, liveb, asAtStart, guardOf, through, called, filledBy, Outcome, out, filled, callOf}
+use Rattle.session.specs.Download.{download, liveb, asAtStart, guardOf, through, called, Outcome, out, filled, callOf}
 use Rattle.session.specs.declared.Error.the-variants.{NotAsAtStart}
 use Rattle.session.specs.declared.Guard.{Guard}
 use Rattle.session.specs.declared.Guard.the-variants.{Open, Shut}
@@ -17,9 +17,10 @@ use Rattle.session.specs.declared.Session.{Session}
 use Rattle.session.specs.declared.Ask.the-variants.{Refused as SaysNo}
 use Rattle.promises.specs.Run.{Event, sentBy, World, tell, transfers}
 use Rattle.promises.specs.Calls.{Call, outcome, heardThrough, call, calls, Allowed, Repeats}
+use Rattle.plan.proofs.Unfilled.{ended-fills}
 use Rattle.promises.proofs.Spends.{tell-adds}
 
--- an ended session asks for nothing and fills nothing
+-- an ended session asks for nothing
 ended-silent : (p : Phase) → liveb p ≡ false → sentBy (asksAt p) ≡ []
 ended-silent First e = absurd (true≢false e)
 ended-silent Clear e = absurd (true≢false e)
@@ -29,16 +30,6 @@ ended-silent (Waiting x) e = absurd (true≢false e)
 ended-silent Resetting e = absurd (true≢false e)
 ended-silent (Finished x) e = refl
 ended-silent (Refused x) e = refl
-
-pub ended-fills : (p : Phase) (cmd : List ℕ) → liveb p ≡ false → filledBy (asksAt p) cmd ≡ cmd
-ended-fills First cmd e = absurd (true≢false e)
-ended-fills Clear cmd e = absurd (true≢false e)
-ended-fills Second cmd e = absurd (true≢false e)
-ended-fills (Sent c) cmd e = absurd (true≢false e)
-ended-fills (Waiting x) cmd e = absurd (true≢false e)
-ended-fills Resetting cmd e = absurd (true≢false e)
-ended-fills (Finished x) cmd e = refl
-ended-fills (Refused x) cmd e = refl
 
 -- what holds of the told answer, and of the world as it was, holds of a call
 pub call-picked : (P : World → Type 0) (x : World) (c : Call) → P (tell (download (c .pages)) x (c .answer)) → P x → P (call x c)

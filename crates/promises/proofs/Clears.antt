@@ -20,7 +20,7 @@ use Rattle.session.specs.declared.Todo.{Todo}
 use Rattle.session.specs.declared.Todo.the-variants.{Send, End as Ends, Refuse}
 use Rattle.session.specs.declared.start.DfuSansIo.{DfuSansIo}
 use Rattle.promises.specs.Run.{Event, opened, after, cleared}
-use Rattle.promises.specs.Sent.{Begins}
+use Rattle.plan.specs.Sent.{Begins}
 use Rattle.promises.proofs.Walk.{Claims, Holds, Wished, WaitingAt, Good, run-always, either-end}
 use Rattle.promises.proofs.Spends.{Any, all-fit}
 use Rattle.promises.proofs.Started.{started}

@@ -7,10 +7,10 @@ use Rattle.protocol.specs.declared.DfuProtocol.{DfuProtocol}
 use Rattle.session.specs.Download.{download}
 use Rattle.session.specs.declared.Session.{Session}
 use Rattle.session.specs.declared.start.DfuSansIo.{DfuSansIo}
-use Rattle.promises.specs.Plan.{Dnload}
+use Rattle.plan.specs.Plan.{Dnload}
 use Rattle.promises.specs.Run.{World, opened, after, transfers, commanded, cleared, Over, Fits, Full}
 use Rattle.promises.specs.Calls.{Call, calls, passed, AllPass}
-use Rattle.promises.specs.Sent.{onWire, planOf, Begins}
+use Rattle.plan.specs.Sent.{onWire, planOf, Begins}
 use Rattle.promises.specs.Whole.{Listed}
 use Rattle.promises.specs.Fair.{heeded, Fair, Ready, requestsOf, bound}
 use Rattle.promises.specs.Finish.{Finishes}

@@ -16,9 +16,9 @@ use Rattle.session.specs.declared.Phase.the-variants.{First}
 use Rattle.session.specs.declared.Setup.{Setup}
 use Rattle.session.specs.declared.Session.{Session}
 use Rattle.session.specs.declared.start.DfuSansIo.{DfuSansIo}
-use Rattle.promises.proofs.Count.{plan-length}
+use Rattle.plan.proofs.Count.{plan-length}
 use Rattle.promises.specs.Run.{World, opened, after, transfers, cleared, Unrefused, Over}
-use Rattle.promises.specs.Sent.{onWire, Begins}
+use Rattle.plan.specs.Sent.{onWire, Begins}
 use Rattle.promises.specs.Fair.{heeded, Fair, Ready, requestsOf, bound}
 use Rattle.promises.specs.Finish.{Finishes}
 use Rattle.promises.proofs.Started.{begun}

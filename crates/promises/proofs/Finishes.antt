@@ -19,9 +19,10 @@ use Rattle.session.specs.declared.Session.{Session}
 use Rattle.session.specs.declared.Todo.{Todo}
 use Rattle.session.specs.declared.Todo.the-variants.{Send, End as Ends, Refuse}
 use Rattle.session.specs.declared.start.DfuSansIo.{DfuSansIo}
-use Rattle.promises.specs.Plan.{Dnload}
-use Rattle.promises.specs.Run.{Event, sends, opened, after, commanded, Over, Fits, wholeOf, Full}
-use Rattle.promises.specs.Sent.{onWire, planOf, Begins}
+use Rattle.plan.specs.Plan.{Dnload}
+use Rattle.plan.specs.Answers.{wholeOf}
+use Rattle.promises.specs.Run.{Event, sends, opened, after, commanded, Over, Fits, Full}
+use Rattle.plan.specs.Sent.{onWire, planOf, Begins}
 use Rattle.promises.proofs.Walk.{Claims, Holds, Wished, WaitingAt, Good, run-always, run-over, either-end}
 use Rattle.promises.proofs.Wanted.{left, Heads, heads, full, wanted, fresh-wanted}
 use Rattle.promises.proofs.Onwire.{wanted-plan}

@@ -25,8 +25,8 @@ use Rattle.session.specs.declared.Session.{Session}
 use Rattle.session.specs.declared.start.DfuSansIo.{DfuSansIo}
 use Rattle.promises.specs.Run.{Event, World, opened, tell}
 use Rattle.promises.specs.Fair.{awaited, heeded, heededBy, Fine, allowed, Fair, FairBy}
-use Rattle.promises.specs.Ideal.{ideal}
-use Rattle.promises.specs.Sent.{Begins}
+use Rattle.plan.specs.Answers.{ideal}
+use Rattle.plan.specs.Sent.{Begins}
 use Rattle.promises.proofs.Walk.{Claims, Holds, ClaimAt, Good, tell-good, either-end}
 use Rattle.promises.proofs.Lasting.{lasting, OfWait, lasting-holds, unit-wish}
 use Rattle.promises.proofs.Spends.{Any, any-fits}

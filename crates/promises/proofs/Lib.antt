@@ -1,9 +1,5 @@
 pub mod Pinned
 pub mod Starred
-pub mod Wire
-pub mod Pages
-pub mod Blocks
-pub mod Count
 pub mod Walk
 pub mod Wanted
 pub mod Onwire
@@ -12,7 +8,6 @@ pub mod Finishes
 pub mod Whole
 pub mod Spends
 pub mod Calls
-pub mod Unfilled
 pub mod Real
 pub mod Lasting
 pub mod Unlent
@@ -26,3 +21,4 @@ pub mod Ideal
 pub mod Machines
 pub mod Reached
 pub mod Demand
+pub mod Enough

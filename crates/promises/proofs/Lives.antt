@@ -33,7 +33,8 @@ use Rattle.session.specs.declared.Todo.the-variants.{Send, End as Ends, Refuse}
 use Rattle.session.specs.declared.Ask.{Ask}
 use Rattle.session.specs.declared.Ask.the-variants.{Transfer, Wait as WaitFor, Reset as ResetBus, Finished as HasFinished, Refused as SaysNo}
 use Rattle.session.specs.declared.Step.{Step}
-use Rattle.promises.specs.Run.{Event, sends, sentBy, shownBy, shownFirst, shownLater, heardAt, World, tell, after, afterBy, transfers, cleared, Unrefused, Over, wholeOf, Full}
+use Rattle.plan.specs.Answers.{wholeOf}
+use Rattle.promises.specs.Run.{Event, sends, sentBy, shownBy, shownFirst, shownLater, heardAt, World, tell, after, afterBy, transfers, cleared, Unrefused, Over, Full}
 use Rattle.promises.specs.Fair.{Fine, allowed, Fair, FairBy, Yes, AllYes, AllYesBy}
 use Rattle.promises.proofs.Wanted.{Heads}
 use Rattle.promises.proofs.Spends.{tell-adds, tell-setup}

@@ -17,9 +17,9 @@ use Rattle.session.specs.declared.Session.{Session}
 use Rattle.session.specs.declared.start.DfuSansIo.{DfuSansIo}
 use Rattle.session.specs.declared.start.StartError.{StartError}
 use Rattle.session.specs.declared.start.Started.the-variants.{Session as Begun, Refused as Unbegun}
-use Rattle.promises.specs.Plan.{Dnload, erasing, several, blockCount, blockOf, plan}
+use Rattle.plan.specs.Plan.{Dnload, erasing, several, blockCount, blockOf, plan}
 use Rattle.promises.specs.Run.{Event, sends, hears, opened, afterBy, inTime, transfers, commanded, cleared, FitsBy}
-use Rattle.promises.specs.Sent.{onWire, planOf}
+use Rattle.plan.specs.Sent.{onWire, planOf}
 use Rattle.promises.specs.Whole.{opening, busyAfter, targetAfter, looks, Round, roundOf, rounds, requestOf, Listed}
 use Rattle.promises.specs.Fair.{heededBy, FairBy, Ready}
 use Rattle.promises.specs.Samples.{deviceOf, shows}

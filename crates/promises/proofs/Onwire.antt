@@ -12,12 +12,12 @@ use Rattle.ground.specs.Pick.{pick}
 use Rattle.session.specs.Download.{covering}
 use Rattle.session.specs.declared.Command.the-variants.{Erase, SetAddress, Empty}
 use Rattle.session.specs.declared.Setup.{Setup}
-use Rattle.promises.specs.Dfu11.{DFU_DNLOAD}
-use Rattle.promises.specs.Dfuse.{eraseCommand, setAddressCommand}
-use Rattle.promises.specs.Plan.{Dnload, dnload, erasing, blockCount, several, numberOf, bytesOf, blockOf, plan}
-use Rattle.promises.proofs.Blocks.{block-length, blocks-within}
-use Rattle.promises.specs.Sent.{onWire}
-use Rattle.promises.proofs.Wire.{erase-command, address-command}
+use Rattle.plan.specs.Dfu11.{DFU_DNLOAD}
+use Rattle.plan.specs.Dfuse.{eraseCommand, setAddressCommand}
+use Rattle.plan.specs.Plan.{Dnload, dnload, erasing, blockCount, several, numberOf, bytesOf, blockOf, plan}
+use Rattle.plan.proofs.Blocks.{block-length, blocks-within}
+use Rattle.plan.specs.Sent.{onWire}
+use Rattle.plan.proofs.Wire.{erase-command, address-command}
 use Rattle.promises.proofs.Wanted.{erases, blockAt, blocksOf, prepared, wanted}
 
 -- each kind of request

@@ -28,6 +28,16 @@ use Rattle.protocol.specs.declared.Interface.{Interface}
 use Rattle.protocol.specs.declared.UsbWriteControl.{UsbWriteControl}
 use Rattle.session.specs.declared.Ask.{Ask}
 use Rattle.session.specs.declared.Step.{Step}
+use Rattle.budget.specs.declared.Suffices.{Suffices}
+use Rattle.speed.specs.Speed.{told as told-number}
+use Rattle.budget.proofs.enough.Kinds as enough-kinds
+use Rattle.budget.proofs.enough.Reads as enough-reads
+use Rattle.budget.proofs.enough_for.Kinds as enough-for-kinds
+use Rattle.budget.proofs.enough_for.Reads as enough-for-reads
+use Rattle.at_once.proofs.told.Kinds as at-once-kinds
+use Rattle.at_once.proofs.told.Reads as at-once-reads
+use Rattle.speed.proofs.rt_layout.Kinds as rt-layout-kinds
+use Rattle.speed.proofs.rt_layout.Reads as rt-layout-reads
 use Rattle.ground.proofs.starts_with.Kinds as starts-with-kinds
 use Rattle.ground.proofs.starts_with.Reads as starts-with-reads
 use Rattle.ground.proofs.least.Kinds as least-kinds
@@ -189,3 +199,16 @@ pinned-told-reply κs a x y s t p q = p ∙ sym q
 pub pinned-data : (κs : Lfts 1) (a : Dens {n = 1} κs data-kinds.ps) (x y : ResD data-signature.signature κs) (s t : AtExit (endedOf 1 data-kinds.ps data-kinds.r) κs)
     → data-reads.Post κs a x s → data-reads.Post κs a y t → now x ≡ now y
 pinned-data κs a x y s t p q = p ∙ sym q
+
+-- the crates above the session
+pub pinned-enough : Pins enough-kinds.ps enough-kinds.r {R = Suffices} enough-reads.Post (λ κs r s. r)
+pinned-enough κs a x y s t p q = p ∙ sym q
+
+pub pinned-enough-for : Pins enough-for-kinds.ps enough-for-kinds.r {R = Suffices} enough-for-reads.Post (λ κs r s. r)
+pinned-enough-for κs a x y s t p q = p ∙ sym q
+
+pub pinned-told-at-once : Pins at-once-kinds.ps at-once-kinds.r {R = Step} at-once-reads.Post (λ κs r s. out r (now (s .1 .1 .1 .0)))
+pinned-told-at-once κs a x y s t p q = p ∙ sym q
+
+pub pinned-rt-layout : Pins rt-layout-kinds.ps rt-layout-kinds.r {R = ℕ} rt-layout-reads.Post (λ κs r s. told-number r (now (s .1 .0)))
+pinned-rt-layout κs a x y s t p q = p ∙ sym q

@@ -16,9 +16,9 @@ use Rattle.session.specs.declared.End.the-variants.{Stays}
 use Rattle.session.specs.declared.Phase.the-variants.{First, Finished, Refused}
 use Rattle.session.specs.declared.Session.{Session}
 use Rattle.session.specs.declared.start.DfuSansIo.{DfuSansIo}
-use Rattle.promises.specs.Plan.{blockCount}
+use Rattle.plan.specs.Plan.{blockCount}
 use Rattle.promises.specs.Run.{opened, after, afterBy, transfers, cleared}
-use Rattle.promises.specs.Sent.{Begins}
+use Rattle.plan.specs.Sent.{Begins}
 use Rattle.promises.specs.Samples.{deviceOf, shows}
 use Rattle.promises.specs.Fair.{Fair, FairBy, requestsOf, bound}
 

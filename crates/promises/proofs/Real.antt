@@ -32,7 +32,7 @@ use Rattle.session.specs.declared.Step.{Step}
 use Rattle.promises.specs.Run.{Event, sentBy, World, tell, after, afterBy}
 use Rattle.promises.specs.Calls.{Call, outcome, heardThrough, call, calls, Lends, AllLend, rightly, passed, AllPass, answers}
 use Rattle.promises.proofs.Spends.{tell-setup}
-use Rattle.promises.proofs.Wire.{erase-command, address-command}
+use Rattle.plan.proofs.Wire.{erase-command, address-command}
 
 -- lent as at start
 lent-as-at-start : (su : Setup) (fw ps : List ℕ) (c : Call) → su .length ≡ length fw → su .pages ≡ length ps → Lends fw ps c

@@ -20,8 +20,8 @@ use Rattle.session.specs.declared.Progress.{Progress}
 use Rattle.session.specs.declared.Setup.{Setup}
 use Rattle.session.specs.declared.Todo.{Todo}
 use Rattle.session.specs.declared.start.DfuSansIo.{DfuSansIo}
-use Rattle.promises.specs.Plan.{sum}
-use Rattle.promises.proofs.Pages.{covering-more, sum-covering}
+use Rattle.plan.specs.Plan.{sum}
+use Rattle.plan.proofs.Pages.{covering-more, sum-covering}
 use Rattle.promises.specs.Fair.{Ready}
 use Rattle.promises.proofs.Wanted.{left, heads, full}
 use Rattle.promises.proofs.Lives.{Wants, Thrives}

@@ -9,7 +9,7 @@ use Rattle.protocol.specs.Interface.{rsplit, addressOf, dfuseOf, interfaceOf}
 use Rattle.session.specs.Machine.{onFirst, onSecond, onPoll, told}
 use Rattle.session.specs.Download.{eraseNext, writeNext, nextOf, tookOf}
 use Rattle.session.specs.Start.{begunOf, beginOf}
-use Rattle.promises.specs.Plan.{sum}
+use Rattle.plan.specs.Plan.{sum}
 use Rattle.promises.specs.Run.{afterBy, transfers}
 use Rattle.promises.specs.Starred.{cases, run, wanted}
 

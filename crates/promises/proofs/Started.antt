@@ -21,7 +21,7 @@ use Rattle.session.specs.declared.start.StartError.{StartError}
 use Rattle.session.specs.declared.start.Started.{Started}
 use Rattle.session.specs.declared.start.Started.the-variants.{Session as Begun, Refused}
 use Rattle.promises.specs.Run.{opened, transfers}
-use Rattle.promises.specs.Sent.{Begins}
+use Rattle.plan.specs.Sent.{Begins}
 
 -- what holds of every refusal, of the finished start and of a begun one, holds of start
 pub start-picked : (P : Started → Type 0) (io : DfuSansIo) (p : DfuProtocol) (n pages budget : ℕ) → ((e : StartError) → P (Refused e))

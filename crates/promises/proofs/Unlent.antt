@@ -26,7 +26,7 @@ use Rattle.session.specs.declared.Step.{Step}
 use Rattle.session.specs.declared.start.DfuSansIo.{DfuSansIo}
 use Rattle.promises.specs.Run.{Event, opened, after, World, tell}
 use Rattle.promises.specs.Calls.{Call, outcome, calls, Lends, AllLend, answers}
-use Rattle.promises.specs.Sent.{Begins}
+use Rattle.plan.specs.Sent.{Begins}
 use Rattle.promises.proofs.Walk.{Claims, Ending, Holds, ClaimAt, Good, tell-good, run-good, either-end}
 use Rattle.promises.proofs.Lasting.{lasting, OfWish, lasting-holds, unit-waits}
 use Rattle.promises.proofs.Spends.{Any, any-fits, all-fit}

@@ -22,10 +22,11 @@ use Rattle.session.specs.declared.Setup.{Setup}
 use Rattle.session.specs.declared.Progress.{Progress}
 use Rattle.session.specs.declared.Todo.{Todo}
 use Rattle.session.specs.declared.Todo.the-variants.{Send, End as Ends, Refuse}
-use Rattle.promises.specs.Plan.{blockCount, several, numberOf}
-use Rattle.promises.proofs.Pages.{covering-zero, covering-more}
-use Rattle.promises.proofs.Blocks.{blockCount-zero, blockCount-more, blockCount-pos, blockCount-next}
-use Rattle.promises.specs.Run.{wholeOf, Full}
+use Rattle.plan.specs.Plan.{blockCount, several, numberOf}
+use Rattle.plan.proofs.Pages.{covering-zero, covering-more}
+use Rattle.plan.proofs.Blocks.{blockCount-zero, blockCount-more, blockCount-pos, blockCount-next}
+use Rattle.plan.specs.Answers.{wholeOf}
+use Rattle.promises.specs.Run.{Full}
 
 -- an erase for each page, from a position on
 unfoldable pub erases : ℕ → List ℕ → List Command

@@ -24,8 +24,9 @@ use Rattle.session.specs.declared.Session.{Session}
 use Rattle.session.specs.declared.Todo.{Todo}
 use Rattle.session.specs.declared.Todo.the-variants.{Send, End as Ends, Refuse}
 use Rattle.session.specs.declared.start.DfuSansIo.{DfuSansIo}
-use Rattle.promises.specs.Run.{Event, sends, hears, opened, after, inTime, Over, Fits, wholeOf, Full}
-use Rattle.promises.specs.Sent.{onWire, Begins}
+use Rattle.plan.specs.Answers.{wholeOf}
+use Rattle.promises.specs.Run.{Event, sends, hears, opened, after, inTime, Over, Fits, Full}
+use Rattle.plan.specs.Sent.{onWire, Begins}
 use Rattle.promises.specs.Whole.{opening, busyAfter, targetAfter, looks, Round, roundOf, rounds, requestOf, Listed}
 use Rattle.promises.proofs.Walk.{Claims, Holds, Wished, WaitingAt, Good, run-over, either-end}
 use Rattle.promises.proofs.Wanted.{left, Heads, heads, full, wanted, fresh-wanted}

@@ -5,7 +5,7 @@ use mathlib.Core.Bool.{Bool, true}
 use mathlib.Core.List.{List, [], _∷_, _++_}
 use lib.ListN.{length}
 use Rattle.ground.specs.Pick.{pick}
-use Rattle.session.specs.Machine.{Answer, count, reply, waited, wasReset, failed, asksAt}
+use Rattle.session.specs.Machine.{Answer, asksAt}
 use Rattle.session.specs.Download.{asAtStart, guardOf, Outcome, out, callOf}
 use Rattle.session.specs.declared.Guard.{Guard}
 use Rattle.session.specs.declared.Guard.the-variants.{Open, Shut}
@@ -19,14 +19,6 @@ pub record Call : Type 0 where
   pub pages : List ℕ
   pub command : List ℕ
   pub answer : Answer
-
--- an answer that isn't a reply
-abbrev pub Unreplied : Answer → Type 0
-Unreplied (count n) = Unit
-Unreplied (reply bs) = ⊥
-Unreplied waited = Unit
-Unreplied wasReset = Unit
-Unreplied failed = Unit
 
 -- what the called function hands back, by its contract
 abbrev pub outcome : Session → Call → Outcome

@@ -23,7 +23,7 @@ use Rattle.session.specs.declared.Step.{Step}
 use Rattle.session.specs.declared.Ask.{Ask}
 use Rattle.session.specs.declared.Ask.the-variants.{Transfer, Wait as WaitFor, Reset as ResetBus, Finished as HasFinished, Refused as SaysNo}
 use Rattle.session.specs.declared.start.DfuSansIo.{DfuSansIo}
-use Rattle.promises.specs.Plan.{sum, commands}
+use Rattle.plan.specs.Plan.{sum, commands}
 use Rattle.promises.specs.Run.{Full}
 
 -- whether an answer is of the kind that is awaited; a failure is, but in a wait

@@ -1,14 +1,9 @@
 pub mod Pins
-pub mod Dfu11
-pub mod Dfuse
-pub mod Plan
 pub mod Run
 pub mod Calls
-pub mod Sent
 pub mod Whole
 pub mod Fair
 pub mod Finish
-pub mod Ideal
 pub mod Machines
 pub mod Samples
 pub mod Starred

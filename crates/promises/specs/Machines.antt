@@ -28,9 +28,9 @@ use Rattle.session.specs.declared.start.DfuSansIo.{DfuSansIo}
 use Rattle.session.specs.declared.start.StartError.the-variants.{NoSpaceLeft}
 use Rattle.session.specs.declared.start.Started.{Started}
 use Rattle.session.specs.declared.start.Started.the-variants.{Session as Begun, Refused as Unbegun}
-use Rattle.promises.specs.Plan.{Dnload}
+use Rattle.plan.specs.Plan.{Dnload}
 use Rattle.promises.specs.Run.{opened, afterBy, transfers, commanded, cleared, Over, FitsBy, Full}
-use Rattle.promises.specs.Sent.{onWire, planOf}
+use Rattle.plan.specs.Sent.{onWire, planOf}
 use Rattle.promises.specs.Whole.{Listed}
 use Rattle.promises.specs.Fair.{heededBy, FairBy, Ready, requestsOf, bound}
 use Rattle.promises.specs.Finish.{FinishesBy}

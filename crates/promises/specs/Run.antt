@@ -4,10 +4,10 @@ use mathlib.Core.List.{List, [], _∷_, _++_}
 use Rattle.get_status.specs.Names.{stateByte}
 use Rattle.get_status.specs.declared.Reply.{Reply}
 use Rattle.get_status.specs.declared.Reply.the-variants.{ResponseTooShort as ShortReply, Read}
+use Rattle.plan.specs.Answers.{wholeOf}
 use Rattle.session.specs.Machine.{Answer, count, reply, waited, wasReset, failed, Work, firstReply, laterReply, asksAt, told}
 use Rattle.session.specs.declared.Session.{Session}
 use Rattle.session.specs.declared.Command.{Command}
-use Rattle.session.specs.declared.Command.the-variants.{Erase, SetAddress, Block, Empty}
 use Rattle.session.specs.declared.Request.{Request}
 use Rattle.session.specs.declared.Request.the-variants.{GetStatus, ClearStatus, Command as Commands}
 use Rattle.session.specs.declared.Wait.the-variants.{Pause, Poll}
@@ -157,11 +157,5 @@ abbrev pub Fits : (Command → ℕ → Type 0) → Work → Session → List Ans
 Fits F w s more = FitsBy F (told w) s more
 
 -- a full write: the count reaches the block's length
-abbrev pub wholeOf : Command → ℕ
-wholeOf (Erase a) = 0
-wholeOf (SetAddress a) = 0
-wholeOf (Block n f m) = m
-wholeOf (Empty n) = 0
-
 abbrev pub Full : Command → ℕ → Type 0
 Full c n = wholeOf c ≤ n

@@ -24,7 +24,7 @@ use Rattle.session.specs.declared.start.Started.the-variants.{Session as Begun,
 use Rattle.session.specs.Machine.{Answer, waited, wasReset, count as counts, mk, asksAt, saidAsk}
 use Rattle.session.specs.Download.{download}
 use Rattle.session.specs.Start.{beginOf, saidStart}
-use Rattle.promises.specs.Plan.{sum}
+use Rattle.plan.specs.Plan.{sum}
 use Rattle.promises.specs.Samples.{deviceOf, shows}
 use Rattle.promises.specs.Run.{opened, after, transfers}
 

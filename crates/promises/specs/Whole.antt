@@ -11,7 +11,7 @@ use Rattle.session.specs.declared.Request.the-variants.{GetStatus, ClearStatus,
 use Rattle.protocol.specs.declared.DfuProtocol.{DfuProtocol}
 use Rattle.session.specs.declared.start.DfuSansIo.{DfuSansIo}
 use Rattle.promises.specs.Run.{Event, sends, hears, inTime}
-use Rattle.promises.specs.Sent.{onWire, planOf}
+use Rattle.plan.specs.Sent.{onWire, planOf}
 
 -- GETSTATUS; CLRSTATUS if and only if the reply said 10; GETSTATUS, whose reply says 2
 abbrev pub opening : ℕ → List Event

@@ -2,8 +2,8 @@
 use mathlib.Core.Path.{ap, sym, _∙_}
 use Prim.Native.Nat.{ℕ}
 use borrow.Author.Needs.{needs}
-use Rattle.promises.specs.Plan.{blockCount}
-use Rattle.promises.proofs.Blocks.{blockCount-sizeless}
+use Rattle.plan.specs.Plan.{blockCount}
+use Rattle.plan.proofs.Blocks.{blockCount-sizeless}
 use Rattle.budget.proofs.blocks_of.Statement.{statement}
 use Rattle.budget.proofs.blocks_of.Tie as tie
 

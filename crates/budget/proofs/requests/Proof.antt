@@ -5,7 +5,7 @@ use native.Mathlib.Omega.{arith}
 use borrow.Author.Needs.{needs}
 use lib.ListN.{length}
 use Rattle.session.proofs.Covering.{bounded}
-use Rattle.promises.proofs.Blocks.{blockCount-bound}
+use Rattle.plan.proofs.Blocks.{blockCount-bound}
 use Rattle.budget.proofs.requests.Statement.{statement}
 use Rattle.budget.proofs.requests.Tie as tie
 

@@ -1,6 +1,7 @@
 -- Only a reply leads to a command: every other answer leaves the command bytes as they were lent, as the calls that take them shared say. Assumes nothing.
 use Prim.Native.Nat.{ℕ, zero, suc}
 use mathlib.Core.Path.{_≡_, refl, ap}
+use mathlib.Core.Bool.{false, true≢false}
 use mathlib.Core.List.{List}
 use lib.ListN.{length}
 use Rattle.ground.proofs.Tests.{picked}
@@ -17,8 +18,18 @@ use Rattle.session.specs.declared.Progress.{Progress}
 use Rattle.session.specs.declared.Setup.{Setup}
 use Rattle.session.specs.declared.Session.{Session}
 use Rattle.session.specs.declared.Ask.the-variants.{Transfer}
-use Rattle.promises.specs.Calls.{Unreplied}
-use Rattle.promises.proofs.Calls.{ended-fills}
+use Rattle.plan.specs.Answers.{Unreplied}
+
+-- an ended session fills nothing
+pub ended-fills : (p : Phase) (cmd : List ℕ) → liveb p ≡ false → filledBy (asksAt p) cmd ≡ cmd
+ended-fills First cmd e = absurd (true≢false e)
+ended-fills Clear cmd e = absurd (true≢false e)
+ended-fills Second cmd e = absurd (true≢false e)
+ended-fills (Sent c) cmd e = absurd (true≢false e)
+ended-fills (Waiting x) cmd e = absurd (true≢false e)
+ended-fills Resetting cmd e = absurd (true≢false e)
+ended-fills (Finished x) cmd e = refl
+ended-fills (Refused x) cmd e = refl
 
 -- a GETSTATUS, or a refusal in its place
 issue-unfilled : (su : Setup) (pr then : Progress) (l : ℕ) (p : Phase) (cmd : List ℕ) → asksAt p ≡ Transfer GetStatus

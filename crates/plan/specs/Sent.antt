@@ -13,8 +13,8 @@ use Rattle.session.specs.declared.start.Started.the-variants.{Session as Begun}
 use Rattle.session.specs.Wire.{wireOf}
 use Rattle.session.specs.Download.{filledFor, requestData}
 use Rattle.session.specs.Start.{dfuseb, targetOf, beginOf}
-use Rattle.promises.specs.Dfu11.{SetupPacket, packet}
-use Rattle.promises.specs.Plan.{Dnload, plan}
+use Rattle.plan.specs.Dfu11.{SetupPacket, packet}
+use Rattle.plan.specs.Plan.{Dnload, plan}
 
 -- our control transfers as setup packets: with the bytes that they carry, with the bytes that they take
 abbrev pub carried : Control → SetupPacket

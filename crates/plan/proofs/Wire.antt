@@ -14,9 +14,9 @@ use Rattle.session.specs.declared.start.Override.{Override}
 use Rattle.session.specs.Wire.{wireOf}
 use Rattle.session.specs.Download.{filledFor, requestData}
 use Rattle.session.specs.Start.{beginOf}
-use Rattle.promises.specs.Sent.{carried, taken}
-use Rattle.promises.specs.Dfu11.{packet, DFU_DNLOAD, DFU_GETSTATUS, DFU_CLRSTATUS}
-use Rattle.promises.specs.Dfuse.{fourBytes, eraseCommand, setAddressCommand}
+use Rattle.plan.specs.Sent.{carried, taken}
+use Rattle.plan.specs.Dfu11.{packet, DFU_DNLOAD, DFU_GETSTATUS, DFU_CLRSTATUS}
+use Rattle.plan.specs.Dfuse.{fourBytes, eraseCommand, setAddressCommand}
 
 pub clear-agrees : carried (wireOf ClearStatus) ≡ DFU_CLRSTATUS
 clear-agrees = refl

@@ -5,8 +5,8 @@ use mathlib.Core.List.{List, [], _∷_, _++_}
 use lib.ListN.{length, take, drop}
 use Rattle.ground.specs.Pick.{pick}
 use Rattle.session.specs.Download.{covering}
-use Rattle.promises.specs.Dfu11.{SetupPacket, DFU_DNLOAD}
-use Rattle.promises.specs.Dfuse.{eraseCommand, setAddressCommand}
+use Rattle.plan.specs.Dfu11.{SetupPacket, DFU_DNLOAD}
+use Rattle.plan.specs.Dfuse.{eraseCommand, setAddressCommand}
 
 -- a DFU_DNLOAD on the wire: its setup packet and its data
 pub record Dnload : Type 0 where

@@ -1,7 +1,7 @@
--- A budget of `enough` always suffices, and the call is pinned down. Assumes nothing.
+-- A budget of `enough` always suffices. Assumes nothing.
 use Prim.Native.Nat.{ℕ, suc, _^_, _≤_, zero}
 use native.Mathlib.Omega.{arith}
-use mathlib.Core.Path.{_≡_, sym, _∙_}
+use mathlib.Core.Path.{_≡_}
 use mathlib.Core.List.{List}
 use lib.Dec.{ltb}
 use lib.ListN.{length}
@@ -13,19 +13,14 @@ use Rattle.session.specs.Start.{dfuseb, overb, setupOf, fresh}
 use Rattle.session.specs.declared.Phase.the-variants.{First}
 use Rattle.session.specs.declared.Session.{Session}
 use Rattle.session.specs.declared.start.DfuSansIo.{DfuSansIo}
-use Rattle.promises.specs.Pins.{Pins}
-use Rattle.promises.specs.Sent.{Begins}
+use Rattle.plan.specs.Sent.{Begins}
 use Rattle.promises.specs.Fair.{heeded, Fair, Ready, requestsOf}
 use Rattle.promises.specs.Finish.{Finishes}
 use Rattle.promises.proofs.Clears.{clears-once}
 use Rattle.promises.proofs.Finish.{starts, finishes}
 use Rattle.budget.specs.Enough.{enoughFor, enoughOf}
 use Rattle.budget.specs.declared.Suffices.{Suffices}
 use Rattle.budget.specs.declared.Suffices.the-variants.{Budget, Never}
-use Rattle.budget.proofs.enough.Kinds as enough-kinds
-use Rattle.budget.proofs.enough.Reads as enough-reads
-use Rattle.budget.proofs.enough_for.Kinds as enough-for-kinds
-use Rattle.budget.proofs.enough_for.Reads as enough-for-reads
 
 never-budget : {n : ℕ} → Never ≡ Budget n → ⊥
 never-budget e = let z : _≡_ {A = ℕ} 0 1 = cc in omega arith
@@ -57,9 +52,3 @@ module _ (io : DfuSansIo) (p : DfuProtocol) (fw ps : List ℕ) (k n : ℕ) where
       → Begins io p fw ps budget s → Fair k 0 (download ps) s (heeded (download ps) s more) → Finishes k io p fw ps s more
   enough-suffices budget s more e m r b f =
       finishes io p fw ps k budget s more r b f (omega (arith, clears-once io p fw ps budget s more b, answered io p fw ps k n e, m))
-
-pub pinned-enough : Pins enough-kinds.ps enough-kinds.r {R = Suffices} enough-reads.Post (λ κs r s. r)
-pinned-enough κs a x y s t p q = p ∙ sym q
-
-pub pinned-enough-for : Pins enough-for-kinds.ps enough-for-kinds.r {R = Suffices} enough-for-reads.Post (λ κs r s. r)
-pinned-enough-for κs a x y s t p q = p ∙ sym q

@@ -5,7 +5,7 @@ use mathlib.Core.List.{List, [], _∷_, _++_}
 use native.Mathlib.Omega.{arith}
 use lib.ListN.{length, take, drop}
 use Rattle.session.specs.Download.{covering}
-use Rattle.promises.specs.Plan.{sum}
+use Rattle.plan.specs.Plan.{sum}
 
 -- nothing is erased for a target of 0 bytes; otherwise the first page, and then those for what is left
 pub covering-zero : (ps : List ℕ) → covering 0 ps ≡ []

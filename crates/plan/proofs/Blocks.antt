@@ -10,8 +10,8 @@ use lib.ListN.{length, drop, length-take, length-drop, take-append-drop, drop-of
 use lib.Seq.{drop-drop}
 use lib.Dec.{leb}
 use borrow.Author.Tests.{leb-true, leb-false}
-use Rattle.promises.specs.Dfuse.{blockAddress}
-use Rattle.promises.specs.Plan.{blockCount, several, numberOf, bytesOf, joined}
+use Rattle.plan.specs.Dfuse.{blockAddress}
+use Rattle.plan.specs.Plan.{blockCount, several, numberOf, bytesOf, joined}
 
 -- no blocks of size 0; and a bound, so that a sum with them fits
 pub blockCount-sizeless : (n : ℕ) → blockCount n 0 ≡ 0

@@ -1,0 +1,5 @@
+pub mod Dfu11
+pub mod Dfuse
+pub mod Plan
+pub mod Sent
+pub mod Answers
