@@ -1,7 +1,7 @@
 // What an update will ask of the device, before it is begun: how many transfers suffice.
 ghost use mathlib.Core.Path.{_≡_};
 ghost use mathlib.Core.Bool.{true};
-ghost use Prim.Native.Nat.{_<_, _≤_, _+_};
+ghost use Prim.Native.Nat.{_<_, _≤_};
 ghost use lib.ListN.{length};
 ghost use Rattle.session.specs.Start.{dfuseb, overb};
 ghost use Rattle.memory_layout.specs.Layout.{maxPages};

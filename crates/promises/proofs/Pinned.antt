@@ -38,6 +38,8 @@ use Rattle.at_once.proofs.told.Kinds as at-once-kinds
 use Rattle.at_once.proofs.told.Reads as at-once-reads
 use Rattle.speed.proofs.rt_layout.Kinds as rt-layout-kinds
 use Rattle.speed.proofs.rt_layout.Reads as rt-layout-reads
+use Rattle.speed.proofs.rt_session.Kinds as rt-session-kinds
+use Rattle.speed.proofs.rt_session.Reads as rt-session-reads
 use Rattle.ground.proofs.starts_with.Kinds as starts-with-kinds
 use Rattle.ground.proofs.starts_with.Reads as starts-with-reads
 use Rattle.ground.proofs.least.Kinds as least-kinds
@@ -212,3 +214,6 @@ pinned-told-at-once κs a x y s t p q = p ∙ sym q
 
 pub pinned-rt-layout : Pins rt-layout-kinds.ps rt-layout-kinds.r {R = ℕ} rt-layout-reads.Post (λ κs r s. told-number r (now (s .1 .0)))
 pinned-rt-layout κs a x y s t p q = p ∙ sym q
+
+pub pinned-rt-session : Pins rt-session-kinds.ps rt-session-kinds.r {R = ℕ} rt-session-reads.Post (λ κs r s. r)
+pinned-rt-session κs a x y s t p q = p ∙ sym q

@@ -1,10 +1,25 @@
 -- What the exported functions answer, in one number.
-use Prim.Native.Nat.{ℕ, _+_}
-use mathlib.Core.List.{List}
+use Prim.Native.Nat.{ℕ, zero, suc, _+_, _-_}
+use mathlib.Core.Bool.{Bool, true, false}
+use mathlib.Core.List.{List, [], _∷_}
+use lib.ListN.{length}
+use Rattle.ground.specs.Pick.{pick}
 use Rattle.memory_layout.specs.Layout.{Done, saidError}
 use Rattle.memory_layout.specs.declared.Error.{Error}
 use Rattle.memory_layout.specs.declared.MemoryLayout.{MemoryLayout}
 use Rattle.memory_layout.specs.declared.MemoryLayout.the-variants.{Pages, Refused}
+use Rattle.protocol.specs.declared.DfuProtocol.the-variants.{Dfuse}
+use Rattle.session.specs.Download.{Outcome, callOf}
+use Rattle.session.specs.Start.{newIo, beginOf}
+use Rattle.session.specs.declared.Phase.{Phase}
+use Rattle.session.specs.declared.Phase.the-variants.{First, Clear, Second, Sent, Waiting, Resetting, Finished, Refused as Ended}
+use Rattle.session.specs.declared.Session.{Session}
+use Rattle.session.specs.declared.Ask.{Ask}
+use Rattle.session.specs.declared.Ask.the-variants.{Transfer, Wait as WaitFor, Reset as ResetBus, Finished as HasFinished, Refused as SaysNo}
+use Rattle.session.specs.declared.start.DfuSansIo.{DfuSansIo}
+use Rattle.session.specs.declared.start.Started.{Started}
+use Rattle.session.specs.declared.start.Started.the-variants.{Session as Begun, Refused as Unbegun}
+use Rattle.plan.specs.Answers.{ideal}
 
 -- 2^63 and document 01's number of the refusal
 abbrev pub refusalOf : Error → ℕ
@@ -26,3 +41,56 @@ told n store = record { number = n; store = store }
 -- what a layout's reading comes to
 abbrev pub toldOf : Done → Told
 toldOf d = told (numberOf (d .answer)) (d .store)
+
+-- whether a finish or a refusal was said
+abbrev pub endb : Ask → Bool
+endb (Transfer q) = false
+endb (WaitFor ms) = false
+endb ResetBus = false
+endb (HasFinished e) = true
+endb (SaysNo e) = true
+
+-- the transfers that a finished session has asked: what is gone of its budget; 0 for any other
+abbrev pub askedAt : Phase → ℕ → ℕ
+askedAt First left = 0
+askedAt Clear left = 0
+askedAt Second left = 0
+askedAt (Sent c) left = 0
+askedAt (Waiting x) left = 0
+askedAt Resetting left = 0
+askedAt (Finished e) left = 18446744073709551615 - left
+askedAt (Ended e) left = 0
+
+abbrev pub askedOf : Session → ℕ
+askedOf s = askedAt (s .phase) (s .left)
+
+-- after a call: the end, or going on
+abbrev pub turnOf : Outcome → (List ℕ → Session → ℕ) → ℕ
+turnOf o on = pick (endb (o .step .says)) (askedOf (o .step .next)) (on (o .command) (o .step .next))
+
+-- n calls at most, each telling at once what is awaited
+unfoldable pub ranOf : List ℕ → List ℕ → ℕ → List ℕ → Session → ℕ
+ranOf fw ps zero cmd s = askedOf s
+ranOf fw ps (suc n) cmd s = turnOf (callOf fw ps cmd s (ideal (s .phase))) (ranOf fw ps n)
+
+-- a session for a tolerant device with a transfer size, its budget as large as can be
+abbrev pub deviceOf : ℕ → DfuSansIo
+deviceOf size =
+    newIo
+    (record {
+      «can_download» = true;
+      «can_upload» = false;
+      «manifestation_tolerant» = true;
+      «will_detach» = false;
+      «detach_timeout» = 0;
+      «transfer_size» = size;
+      «dfu_version» = record { 0 = 1; 1 = 0x1a };
+    })
+
+-- the session that was begun is run; none if start refuses
+abbrev pub runOf : List ℕ → List ℕ → Started → ℕ
+runOf fw ps (Begun s) = ranOf fw ps 1000000 (0 ∷ 0 ∷ 0 ∷ 0 ∷ 0 ∷ []) s
+runOf fw ps (Unbegun e) = 0
+
+abbrev pub sessionOf : List ℕ → List ℕ → ℕ → ℕ → ℕ
+sessionOf fw ps address size = runOf fw ps (beginOf (deviceOf size) (Dfuse address) (length fw) (length ps) 18446744073709551615)

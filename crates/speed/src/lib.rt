@@ -1,7 +1,11 @@
 // Two functions for a benchmark in another language to call: a layout's reading, and a whole session.
 ghost use mathlib.Core.Path.{_≡_};
 ghost use Rattle.memory_layout.specs.Layout.{layoutOf, saidError};
-ghost use Rattle.speed.specs.Speed.{numberOf, told, toldOf};
+ghost use mathlib.Core.List.{[], _∷_};
+ghost use lib.ListN.{length};
+ghost use Rattle.protocol.specs.declared.DfuProtocol.the-variants.{Dfuse};
+ghost use Rattle.session.specs.Start.{beginOf};
+ghost use Rattle.speed.specs.Speed.{numberOf, told, toldOf, endb, askedOf, ranOf, deviceOf, sessionOf};
 use functional_descriptor::FunctionalDescriptor;
 use ground::Version;
 use memory_layout::Error;
@@ -53,9 +57,10 @@ pub extern "C" fn rt_layout(text: &[u8], store: &mut [u32]) -> u64
     number(layout)
 }
 
-// From here on: a harness for the benchmark. Its functions are proved safe and ending; their answers have no contract.
 // A DfuSe session for a device with a transfer size that stays on the bus, its budget as large as can be.
-fn started(firmware: &[u8], pages: &[u32], address: u32, size: u16) -> Started {
+fn started(firmware: &[u8], pages: &[u32], address: u32, size: u16) -> Started
+    ensures { λ r. ⌜ r ≡ beginOf (deviceOf size) (Dfuse address) (length (now (firmware .entry))) (length (now (pages .entry))) 18446744073709551615 ⌝ }
+{
     let descriptor = FunctionalDescriptor {
         can_download: true,
         can_upload: false,
@@ -70,7 +75,9 @@ fn started(firmware: &[u8], pages: &[u32], address: u32, size: u16) -> Started {
 }
 
 // Whether a finish or a refusal was said.
-fn is_end(says: Ask) -> bool {
+fn is_end(says: Ask) -> bool
+    ensures { λ r. ⌜ r ≡ endb says ⌝ }
+{
     match says {
         Ask::Transfer(_) => false,
         Ask::Wait(_) => false,
@@ -81,16 +88,26 @@ fn is_end(says: Ask) -> bool {
 }
 
 // The transfers that a finished session has asked, what is gone of its budget; 0 for any other.
-fn asked(session: Session) -> u64 {
+fn asked(session: Session) -> u64
+    ensures { λ r. ⌜ r ≡ askedOf session ⌝ }
+{
     let phase = session.phase;
     match phase {
+        Phase::First => 0,
+        Phase::Clear => 0,
+        Phase::Second => 0,
+        Phase::Sent(_) => 0,
+        Phase::Waiting(_) => 0,
+        Phase::Resetting => 0,
         Phase::Finished(_) => u64::MAX - session.left,
-        _ => 0,
+        Phase::Refused(_) => 0,
     }
 }
 
 // Runs a session to its end, which has to come within the most calls.
-fn run(session: Session, firmware: &[u8], pages: &[u32]) -> u64 {
+fn run(session: Session, firmware: &[u8], pages: &[u32]) -> u64
+    ensures { λ r. ⌜ r ≡ ranOf (now (firmware .entry)) (now (pages .entry)) 1000000 (0 ∷ 0 ∷ 0 ∷ 0 ∷ 0 ∷ []) session ⌝ }
+{
     let mut command = [0u8; 5];
     let mut session = session;
     let mut calls: u64 = 0;
@@ -108,7 +125,9 @@ fn run(session: Session, firmware: &[u8], pages: &[u32]) -> u64 {
 
 // A whole DfuSe session against a device that answers at once: how many transfers it asked. 0 if start refuses or a refusal came.
 #[no_mangle]
-pub extern "C" fn rt_session(firmware: &[u8], pages: &[u32], address: u32, size: u16) -> u64 {
+pub extern "C" fn rt_session(firmware: &[u8], pages: &[u32], address: u32, size: u16) -> u64
+    ensures { λ r. ⌜ r ≡ sessionOf (now (firmware .entry)) (now (pages .entry)) address size ⌝ }
+{
     let started = started(firmware, pages, address, size);
     match started {
         Started::Refused(_) => 0,

@@ -1,5 +1,5 @@
 -- `number` meets its contract: a refusal's number is added to 2^63.
-use mathlib.Core.Path.{_≡_, ap}
+use mathlib.Core.Path.{ap}
 use Prim.Native.Nat.{ℕ, _+_}
 use borrow.Author.Needs.{needs}
 use Rattle.speed.proofs.number.Statement.{statement}

@@ -1,5 +1,5 @@
 -- `rt_layout` meets its contract: the reader's answer as a number, and its store as it is.
-use mathlib.Core.Path.{_≡_, ap, _∙_}
+use mathlib.Core.Path.{ap, _∙_}
 use Prim.Native.Nat.{ℕ}
 use borrow.Author.Needs.{needs}
 use Rattle.speed.specs.Speed.{told, toldOf}
