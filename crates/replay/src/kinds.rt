@@ -9,6 +9,7 @@ pub enum Kind {
     Detach,
     Begin,
     Session,
+    Suffix,
     // No kind of case, or a line that is too long.
     Bad,
 }
@@ -44,6 +45,9 @@ pub fn of(line: &[u8]) -> Kind {
     }
     if ground::starts_with(line, b"session ") {
         return Kind::Session;
+    }
+    if ground::starts_with(line, b"suffix ") {
+        return Kind::Suffix;
     }
     Kind::Bad
 }

@@ -2,6 +2,7 @@
 mod auto;
 mod begin;
 mod case;
+mod files;
 mod firmware;
 mod kinds;
 mod leaves;
@@ -40,6 +41,7 @@ fn answer(
         Kind::Detach => leaves::detach(out, at),
         Kind::Begin => begin::begin(line, out, at),
         Kind::Session => sessions::session(line, bytes, firmware, pages, out, at),
+        Kind::Suffix => files::answer(line, bytes, out, at),
     }
 }
 

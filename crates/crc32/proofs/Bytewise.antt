@@ -1,0 +1,27 @@
+-- A byte by the table, and the loop over the bytes: what is still to come leads from the register to the answer. Assumes nothing.
+use Prim.Native.Nat.{ℕ, _+_, _/_, _%_, _<_, _≤_}
+use mathlib.Core.Path.{_≡_, ap, _∙_}
+use mathlib.Core.List.{List}
+use native.Mathlib.Nat.{mod-lt, zero-lt-suc}
+use native.Mathlib.Numerals.{add-one}
+use native.Mathlib.Omega.{arith}
+use lib.Bits.{bitXor}
+use lib.ListN.{length, getD, drop, drop-of-length-le}
+use lib.Seq.{drop-cons}
+use Rattle.crc32.specs.Crc.{eight, crc, Table}
+use Rattle.crc32.proofs.Linear.{table-step}
+
+module _ (s : List ℕ) (i : ℕ) where
+  pub turn : (c d : ℕ) → i < length s → d ≡ eight (bitXor c (getD s i 0)) → crc d (drop (i + 1) s) ≡ crc c (drop i s)
+  unfolding crc
+  turn c d h e = rw (add-one, drop-cons s i 0 h, e)
+
+  pub over : (c : ℕ) → length s ≤ i → c ≡ crc c (drop i s)
+  unfolding crc
+  over c h = rw (drop-of-length-le s h)
+
+-- one byte by a table that has the rule
+pub looked-up : (t : List ℕ) (c b x : ℕ) → Table t → b < 256 → x ≡ bitXor c b % 256 → bitXor (getD t x 0) (c / 256) ≡ eight (bitXor c b)
+unfolding Table
+looked-up t c b x r h e =
+    ap (λ (y : ℕ). bitXor y (c / 256)) (r x (omega (arith, mod-lt (bitXor c b) (zero-lt-suc 255))) ∙ ap eight e) ∙ table-step c b h

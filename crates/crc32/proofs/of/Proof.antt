@@ -1,0 +1,17 @@
+-- `of` meets its contract: the words of the source have the table's rule.
+use mathlib.Core.Path.{refl}
+use borrow.Author.Needs.{needs}
+use Rattle.crc32.specs.Crc.{shifted, eight}
+use Rattle.crc32.proofs.Rule.{rule}
+use Rattle.crc32.proofs.of.Statement.{statement}
+use Rattle.crc32.proofs.of.Tie as tie
+
+update-requires : tie.Need-update-requires
+unfolding shifted eight
+update-requires c κs = rule _ refl tt
+
+returns : tie.Need-returns
+returns c = search needs
+
+pub of-spec : {M : Type 1} → statement M
+of-spec = tie.close (tie.spec update-requires returns)

@@ -1,0 +1,4 @@
+pub mod Words
+pub mod Tested
+pub mod Appendix
+pub mod Damage

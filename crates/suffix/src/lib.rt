@@ -1,0 +1,95 @@
+// The DFU suffix: the last 16 bytes of a file say whom the firmware before them is for, and end with a CRC over all before it.
+ghost use mathlib.Core.Path.{_≡_};
+ghost use Rattle.ground.specs.Bytes.{field};
+ghost use Rattle.suffix.specs.Suffix.{identitiesOf, suffixOf, firmwareOf};
+
+// How many bytes a suffix has; its length byte says so too.
+pub const LENGTH: usize = 16;
+
+// Whom a file is for.
+pub struct Identities {
+    // bcdDevice
+    pub device: u16,
+    // idProduct
+    pub product: u16,
+    // idVendor
+    pub vendor: u16,
+    // bcdDFU: 0x0100, and 0x011a for DfuSe
+    pub dfu_version: u16,
+}
+
+// What a file is by its suffix.
+pub enum Suffix {
+    // Refusal 40: fewer than 16 bytes.
+    FileTooShort,
+    // 41: `UFD` is not in its place
+    NoSignature,
+    // 42: the length byte is not 16
+    WrongLength,
+    // 43: the CRC is not that of the bytes before it
+    WrongCrc,
+    Read { identities: Identities, crc: u32 },
+}
+
+// The four bytes at a place as a number.
+pub fn word_at(s: &[u8], at: usize) -> u32
+    ensures { λ r. ⌜ r ≡ field at 4 (now (s .entry)) ⌝ }
+{
+    if s.len() < at {
+        return 0;
+    }
+    let rest = &s[at..];
+    (ground::pair_at(rest, 0) as u32) + (ground::pair_at(rest, 2) as u32) * 65536
+}
+
+// The identities of the 16 bytes of a suffix.
+fn ids(suffix: &[u8]) -> Identities
+    ensures { λ r. ⌜ r ≡ identitiesOf (now (suffix .entry)) ⌝ }
+{
+    Identities {
+        device: ground::pair_at(suffix, 0),
+        product: ground::pair_at(suffix, 2),
+        vendor: ground::pair_at(suffix, 4),
+        dfu_version: ground::pair_at(suffix, 6),
+    }
+}
+
+impl Suffix {
+    // Reads a file's suffix: the tests stand in the order of their refusals.
+    pub fn read(file: &[u8]) -> Suffix
+        ensures { λ r. ⌜ r ≡ suffixOf (now (file .entry)) ⌝ }
+    {
+        if file.len() < LENGTH {
+            return Suffix::FileTooShort;
+        }
+        let suffix = &file[file.len() - LENGTH..];
+        if !ground::starts_with(&suffix[8..], b"UFD") {
+            return Suffix::NoSignature;
+        }
+        if suffix[11] != 16 {
+            return Suffix::WrongLength;
+        }
+        let crc = word_at(suffix, 12);
+        if crc != crc32::of(&file[..file.len() - 4]) {
+            return Suffix::WrongCrc;
+        }
+        Suffix::Read {
+            identities: ids(suffix),
+            crc,
+        }
+    }
+
+    // The firmware part of a file: all before its suffix, and of a file that is refused the empty part at its start.
+    pub fn firmware(file: &[u8]) -> &[u8]
+        ensures { λ d. ⌜ now d ≡ firmwareOf (now (file .entry)) ⌝ }
+    {
+        let read = Suffix::read(file);
+        match read {
+            Suffix::Read { .. } => &file[..file.len() - LENGTH],
+            Suffix::FileTooShort => &file[..0],
+            Suffix::NoSignature => &file[..0],
+            Suffix::WrongLength => &file[..0],
+            Suffix::WrongCrc => &file[..0],
+        }
+    }
+}
