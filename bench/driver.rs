@@ -165,12 +165,12 @@ fn show(what: &str, per: &str, parts: u64, (rattle, rust): (f64, f64)) {
     );
 }
 
-fn layout(what: &str, text: &str, rounds: u32) {
+fn layout(what: &str, text: &str, pages: usize, (per, parts): (&str, usize), rounds: u32) {
     let mut store = [0u32; PAGES];
     let told = rattle_layout(text, &mut store);
     let read = MemoryLayout::try_from(text).expect("a good layout");
-    assert_eq!(told, PAGES as u64, "{what}: the number of pages");
-    assert_eq!(&store[..], &read[..], "{what}: the pages");
+    assert_eq!(told, pages as u64, "{what}: the number of pages");
+    assert_eq!(&store[..pages], &read[..], "{what}: the pages");
     let times = least(
         rounds,
         200,
@@ -181,7 +181,7 @@ fn layout(what: &str, text: &str, rounds: u32) {
             black_box(MemoryLayout::try_from(black_box(text)).expect("a good layout"));
         },
     );
-    show(what, "a page", PAGES as u64, times);
+    show(what, per, parts as u64, times);
 }
 
 /// A refusal has document 01's number, and leaves the store; dfu-core refuses the same texts.
@@ -243,9 +243,27 @@ fn main() {
     layout(
         "layout, 512 pages in 64 pieces",
         &["8*1Kg"; 64].join(","),
+        PAGES,
+        ("a page", PAGES),
         rounds,
     );
-    layout("layout, 512 pages in 1 piece", "512*1Kg", rounds);
+    layout(
+        "layout, 512 pages in 1 piece",
+        "512*1Kg",
+        PAGES,
+        ("a page", PAGES),
+        rounds,
+    );
+    // The text of bench/digits: ten-digit numbers, but for the last piece, which fills 1,024 bytes.
+    let text = "0000000001*0000000001Kg,".repeat(42) + "000001*0000001Kg";
+    let digits = text.bytes().filter(u8::is_ascii_digit).count();
+    layout(
+        "layout, 1,024 bytes with leading zeros, 853 digits",
+        &text,
+        43,
+        ("a digit", digits),
+        rounds,
+    );
     session(rounds);
 }
 

@@ -1,4 +1,5 @@
 pub mod Digits
+pub mod Decimal
 pub mod Scan
 pub mod Pieces
 pub mod Turns
