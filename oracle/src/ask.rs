@@ -6,6 +6,8 @@ use crate::case::{Hex, Told};
 use crate::heard::Wait;
 use crate::refusal::Refusal;
 
+const GETSTATUS: u8 = 3;
+
 #[derive(Clone, Copy, Debug)]
 pub enum Ask {
     Read { request: Request, awaited: Awaited },
@@ -79,11 +81,22 @@ impl Data {
     }
 }
 
-/// The 6 bytes asked by a read are document 01's: dfu-core lends its whole buffer.
+impl Request {
+    /// The request as the rules have it: dfu-core sends GETSTATUS as 0x21, the rules as 0xA1. This one byte is mapped.
+    fn ruled(self) -> Self {
+        let kind = match (self.kind, self.number) {
+            (0x21, GETSTATUS) => 0xa1,
+            (kind, _) => kind,
+        };
+        Self { kind, ..self }
+    }
+}
+
+/// The 6 bytes asked by a read are the rules': dfu-core lends its whole buffer.
 impl fmt::Display for Ask {
     fn fmt(&self, f: &mut fmt::Formatter<'_>) -> fmt::Result {
         match self {
-            Ask::Read { request, .. } => write!(f, "read {request} 6"),
+            Ask::Read { request, .. } => write!(f, "read {} 6", request.ruled()),
             Ask::Write { request, data } => write!(f, "write {request}{data}"),
             Ask::Wait(wait) => {
                 let mark = if wait.slept { "" } else { " wrong-wait" };

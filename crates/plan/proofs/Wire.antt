@@ -1,4 +1,4 @@
--- The wire is what the papers say, but for GETSTATUS's direction; and what start doesn't look at decides nothing. Assumes nothing.
+-- The wire is what the papers say; and what start doesn't look at decides nothing. Assumes nothing.
 use Prim.Native.Nat.{ℕ, _/_, _%_}
 use mathlib.Core.Path.{_≡_, refl, ap, _∙_}
 use mathlib.Core.Bool.{Bool}
@@ -15,8 +15,11 @@ use Rattle.session.specs.Wire.{wireOf}
 use Rattle.session.specs.Download.{filledFor, requestData}
 use Rattle.session.specs.Start.{beginOf}
 use Rattle.plan.specs.Sent.{carried, taken}
-use Rattle.plan.specs.Dfu11.{packet, DFU_DNLOAD, DFU_GETSTATUS, DFU_CLRSTATUS}
+use Rattle.plan.specs.Dfu11.{DFU_DNLOAD, DFU_GETSTATUS, DFU_CLRSTATUS}
 use Rattle.plan.specs.Dfuse.{fourBytes, eraseCommand, setAddressCommand}
+
+pub status-agrees : taken (wireOf GetStatus) ≡ DFU_GETSTATUS
+status-agrees = refl
 
 pub clear-agrees : carried (wireOf ClearStatus) ≡ DFU_CLRSTATUS
 clear-agrees = refl
@@ -32,10 +35,6 @@ erase-agrees a = refl
 
 pub address-agrees : (a : ℕ) → carried (wireOf (Sends (SetAddress a))) ≡ DFU_DNLOAD 0 5
 address-agrees a = refl
-
--- where they part: GETSTATUS takes its bytes under the type that sends
-pub status-parts : taken (wireOf GetStatus) ≡ packet 0x21 3 0 6 × DFU_GETSTATUS ≡ packet 0xA1 3 0 6
-status-parts = (refl, refl)
 
 -- the command bytes that a call fills, handed back as the request's data, are the paper's command
 four : (a : ℕ) → bytesLow 4 a ≡ fourBytes a

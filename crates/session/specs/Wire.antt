@@ -8,9 +8,10 @@ use Rattle.session.specs.declared.wire.Control.{Control}
 abbrev pub control : ℕ → ℕ → ℕ → ℕ → ℕ → Control
 control type req val takes carries = record { «request_type» = type; request = req; value = val; takes = takes; carries = carries }
 
--- type 0x21; download 1, GETSTATUS 3 (value 0, 6 bytes asked), CLRSTATUS 4 (value 0, no data); a DfuSe command has value 0 and five bytes
+-- type 0x21, and 0xA1 for GETSTATUS, which takes its data from the device; download 1, GETSTATUS 3 (value 0, 6 bytes asked),
+-- CLRSTATUS 4 (value 0, no data); a DfuSe command has value 0 and five bytes
 abbrev pub wireOf : Request → Control
-wireOf GetStatus = control 0x21 3 0 6 0
+wireOf GetStatus = control 0xA1 3 0 6 0
 wireOf ClearStatus = control 0x21 4 0 0 0
 wireOf (Commands (Erase a)) = control 0x21 1 0 0 5
 wireOf (Commands (SetAddress a)) = control 0x21 1 0 0 5

@@ -20,7 +20,10 @@ pub struct Control {
     pub carries: u32,
 }
 
+// To the device, and from it: GETSTATUS alone takes data.
 const REQUEST_TYPE: u8 = 0x21;
+
+const REQUEST_TYPE_IN: u8 = 0xA1;
 
 const DFU_DNLOAD: u8 = 1;
 
@@ -48,7 +51,7 @@ impl Request {
     {
         match self {
             Request::GetStatus => Control {
-                request_type: REQUEST_TYPE,
+                request_type: REQUEST_TYPE_IN,
                 request: DFU_GETSTATUS,
                 value: 0,
                 takes: 6,
