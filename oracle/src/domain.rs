@@ -5,7 +5,7 @@ use crate::case::{Kind, Target};
 
 const LONGEST_TEXT: usize = 1_024;
 const MOST_PAGES: usize = 512;
-const SHORTEST_REPLY: u16 = 6;
+const REPLY: usize = 6;
 
 /// A layout text that both sides read the same way.
 pub fn layout(store: usize, text: &[u8]) -> Option<&str> {
@@ -25,8 +25,13 @@ pub fn interface(store: usize, text: &[u8]) -> Option<&str> {
 
 /// A device that both sides download to the same way.
 pub fn target(target: &Target, pages: usize) -> bool {
-    let size = target.size == 0 || target.size >= SHORTEST_REPLY;
+    let size = target.size == 0 || usize::from(target.size) >= REPLY;
     size && (target.kind == Kind::Plain || pages <= MOST_PAGES)
+}
+
+/// A reply that both sides read the same way, unless it is a session's first: it is too short, or its status is 0.
+pub fn reply(bytes: &[u8]) -> bool {
+    bytes.len() < REPLY || bytes[0] == 0
 }
 
 fn ascii(text: &[u8]) -> Option<&str> {

@@ -37,6 +37,9 @@ pub fn descriptor(bytes: &[u8]) -> Result<String, Aside> {
 /// suits, whose refusal names the state, and one that takes this state for busy and names the time. Status and index
 /// are heard.
 pub fn reply(bytes: &[u8]) -> Result<String, Aside> {
+    if !domain::reply(bytes) {
+        return Err(Aside::Outside);
+    }
     let state = match judge(bytes, State::Other(255), State::Other(255))? {
         Ok(_) => State::Other(255),
         Err(Error::InvalidState { got, .. }) => got,

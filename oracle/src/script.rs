@@ -91,7 +91,8 @@ impl Host for Script<'_> {
             self.line(ask);
         }
         let told = self.next_call(ask)?;
-        self.outside = !(self.lends_enough() && ask.awaits(&told, self.case.target.size));
+        let awaited = ask.awaits(&told, self.case.target.size);
+        self.outside = !(self.lends_enough() && awaited && self.is_believed(&told));
         (!self.outside).then_some(told)
     }
 }
@@ -168,6 +169,14 @@ impl<'a> Script<'a> {
         let pages =
             self.case.target.kind == Kind::Plain || self.lent.pages == self.case.pages.len();
         pages && self.lent.firmware == self.case.length && self.lent.command >= LEAST_COMMAND
+    }
+
+    /// Whether the rules go on with a reply's status: the first reply of a session may have any, a later one 0.
+    fn is_believed(&self, told: &Told) -> bool {
+        match told {
+            Told::Reply(bytes) => self.spent == 1 || domain::reply(bytes),
+            _ => true,
+        }
     }
 
     /// Writes the end, and again for each call after it. A refused start is told nothing more.

@@ -10,7 +10,7 @@ use Rattle.get_status.specs.Names.{stateOf, stateByte, statusOf, statusB
 use Rattle.get_status.specs.declared.State.{State}
 use Rattle.get_status.specs.declared.GetStatusMessage.{GetStatusMessage}
 use Rattle.get_status.specs.declared.Reply.{Reply}
-use Rattle.get_status.specs.declared.Reply.the-variants.{ResponseTooShort, Read}
+use Rattle.get_status.specs.declared.Reply.the-variants.{ResponseTooShort, StatusError, Read}
 use Rattle.get_status.specs.declared.Met.{Met}
 use Rattle.get_status.specs.declared.Met.the-variants.{Reached, Busy, InvalidState}
 
@@ -27,6 +27,15 @@ messageOf bs = record {
 abbrev pub replyOf : List ℕ → Reply
 replyOf bs = pick (ltb (length bs) 6) (ResponseTooShort (length bs)) (Read (messageOf bs))
 
+-- read strictly, a status other than 0 is refused and carried; the length is tested before it, no state is
+abbrev pub strict : Reply → Reply
+strict (ResponseTooShort got) = ResponseTooShort got
+strict (StatusError status) = StatusError status
+strict (Read m) = pick (eqb (statusByte (m .status)) 0) (Read m) (StatusError (m .status))
+
+abbrev pub strictReplyOf : List ℕ → Reply
+strictReplyOf bs = strict (replyOf bs)
+
 -- target reached; busy, with the reply's milliseconds; otherwise wrong, the busy state being expected
 abbrev pub judged : GetStatusMessage → State → State → Met
 judged m busy target =
@@ -36,6 +45,7 @@ judged m busy target =
 -- document 01's number and values for each answer
 abbrev pub saidOf : Reply → Said
 saidOf (ResponseTooShort got) = says 6 (got ∷ 6 ∷ [])
+saidOf (StatusError status) = says 27 (statusByte status ∷ [])
 saidOf (Read m) = says 0 (statusByte (m .status) ∷ m .«poll_timeout» ∷ stateByte (m .state) ∷ m .index ∷ [])
 
 abbrev pub saidMet : Met → Said

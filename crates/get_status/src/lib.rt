@@ -3,7 +3,7 @@ ghost use mathlib.Core.Path.{_≡_};
 ghost use Prim.Native.Nat.{_<_};
 ghost use lib.ListN.{length};
 ghost use Rattle.get_status.specs.Names.{stateOf, stateByte, statusOf, statusByte, settled};
-ghost use Rattle.get_status.specs.Reply.{messageOf, replyOf, judged};
+ghost use Rattle.get_status.specs.Reply.{messageOf, replyOf, strictReplyOf, judged};
 
 // What a device is doing, DFU 1.1's bState.
 pub enum State {
@@ -57,6 +57,8 @@ pub struct GetStatusMessage {
 pub enum Reply {
     // Refusal 6: fewer than 6 bytes.
     ResponseTooShort { got: usize },
+    // Refusal 27: a status other than 0. Only the strict reader gives it.
+    StatusError { status: Status },
     Read(GetStatusMessage),
 }
 
@@ -196,6 +198,24 @@ impl GetStatusMessage {
             return Reply::ResponseTooShort { got };
         }
         Reply::Read(fields(bytes))
+    }
+
+    // Reads a reply whose status must be 0: every one but a session's first, which may report the error that is to be cleared.
+    pub fn strict_from_bytes(bytes: &[u8]) -> Reply
+        ensures { λ r. ⌜ r ≡ strictReplyOf (now (bytes .entry)) ⌝ }
+    {
+        let reply = GetStatusMessage::from_bytes(bytes);
+        match reply {
+            Reply::ResponseTooShort { got } => Reply::ResponseTooShort { got },
+            Reply::StatusError { status } => Reply::StatusError { status },
+            Reply::Read(message) => {
+                let status = message.status;
+                if status.byte() == 0 {
+                    return Reply::Read(message);
+                }
+                Reply::StatusError { status }
+            }
+        }
     }
 
     // Judges a reply for a wait. The target is tested first, so a wait may have it for its busy state too.

@@ -14,12 +14,14 @@ use Rattle.plan.specs.Sent.{onWire, planOf, Begins}
 use Rattle.promises.specs.Whole.{Listed}
 use Rattle.promises.specs.Fair.{heeded, Fair, Ready, requestsOf, bound}
 use Rattle.promises.specs.Finish.{Finishes}
+use Rattle.promises.specs.Believed.{AllSound}
 use Rattle.promises.proofs.Started.{start-adds}
 use Rattle.promises.proofs.Calls.{spend}
 use Rattle.promises.proofs.Real.{passed-run}
 use Rattle.promises.proofs.Finishes.{finished-sends-the-plan, every-run-leads-the-plan}
 use Rattle.promises.proofs.Whole.{finished-lists}
 use Rattle.promises.proofs.Finish.{finishes}
+use Rattle.promises.proofs.Believed.{unrefused-sound, over-unrefused}
 
 module _ (io : DfuSansIo) (p : DfuProtocol) (fw ps : List ℕ) (budget : ℕ) (s : Session) (more : List Call) where
   -- THE SPEND, whatever is lent and told
@@ -50,6 +52,13 @@ module _ (io : DfuSansIo) (p : DfuProtocol) (fw ps : List ℕ) (budget : ℕ) (s
     finishing-means-the-list h k u o =
         subst (λ (x : World). Listed io p fw ps (x .past)) (sym same)
         (finished-lists io p fw ps budget s (passed (s .setup) more) h k b u (subst (λ (x : World). Over (x .session .phase)) same o))
+
+    -- NO ERROR WAS TOLD: every reply but the first had 6 bytes or more and status 0
+    pub finishing-means-no-error : Over ((calls (opened s) more) .session .phase) → AllSound (download ps) s (passed (s .setup) more)
+    finishing-means-no-error o =
+        let x : World = after (download ps) (opened s) (passed (s .setup) more) in
+        unrefused-sound (download ps) (opened s) (passed (s .setup) more)
+        (over-unrefused (x .session .phase) (subst (λ (x : World). Over (x .session .phase)) same o))
 
     -- IT FINISHES, and where it has come to is where the calls have
     pub it-finishes : (k : ℕ) → Ready io p fw ps → Fair k 0 (download ps) s (heeded (download ps) s (passed (s .setup) more))

@@ -59,10 +59,10 @@ module _ (w : Work) (su : Setup) where
   fine : (j : ℕ) (p : Phase) (pr : Progress) (l : ℕ) (h : List Event) → ClaimAt w su Any sane p pr l h → Fine j p (ideal p)
   fine j First pr l h v = (le-refl _, tt)
   fine j Clear pr l h v = tt
-  fine j Second pr l h v = (le-refl _, refl)
+  fine j Second pr l h v = (le-refl _, (refl, refl))
   fine j (Sent c) pr l h v = le-refl _
   fine j (Waiting (Pause b t ms)) pr l h v = tt
-  fine j (Waiting (Poll b t)) pr l h v = (le-refl _, inl v)
+  fine j (Waiting (Poll b t)) pr l h v = (le-refl _, (refl, inl v))
   fine j Resetting pr l h v = tt
   fine j (Finished e) pr l h v = tt
   fine j (Refused e) pr l h v = tt

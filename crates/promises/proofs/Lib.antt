@@ -20,5 +20,6 @@ pub mod Clears
 pub mod Ideal
 pub mod Machines
 pub mod Reached
+pub mod Believed
 pub mod Demand
 pub mod Enough

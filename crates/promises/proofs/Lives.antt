@@ -3,18 +3,18 @@ use Prim.Native.Nat.{ℕ, zero, suc, _+_, _-_, _*_, _<_, _≤_}
 use native.Mathlib.Omega.{arith}
 use mathlib.Core.Path.{_≡_, refl, ap, sym, subst, _∙_}
 use mathlib.Core.Logic.{_⊎_, ⊎-elim}
-use mathlib.Core.Bool.{false}
+use mathlib.Core.Bool.{true, false}
 use mathlib.Core.List.{List, [], _∷_, _++_}
 use lib.Dec.{eqb, ltb}
 use lib.ListN.{length, length-append}
-use borrow.Author.Tests.{le-ltb, eqb-false}
+use borrow.Author.Tests.{le-ltb, eq-eqb, eqb-false}
 use Rattle.ground.proofs.Tests.{picked}
-use Rattle.get_status.specs.Names.{stateByte}
-use Rattle.get_status.specs.Reply.{messageOf, replyOf}
+use Rattle.get_status.specs.Names.{stateByte, statusByte}
+use Rattle.get_status.specs.Reply.{messageOf}
 use Rattle.get_status.specs.declared.State.{State}
 use Rattle.get_status.specs.declared.GetStatusMessage.{GetStatusMessage}
 use Rattle.get_status.specs.declared.Reply.{Reply}
-use Rattle.get_status.specs.declared.Reply.the-variants.{ResponseTooShort as ShortReply, Read}
+use Rattle.get_status.specs.declared.Reply.the-variants.{ResponseTooShort as ShortReply, StatusError as BadStatus, Read}
 use Rattle.get_status.specs.declared.Met.{Met}
 use Rattle.get_status.specs.declared.Met.the-variants.{Busy}
 use Rattle.session.specs.Machine.{Answer, count, reply, waited, wasReset, failed, Work, mk, issue, proceed, waitAfter, firstReply, laterReply, reading, onFirst, onSecond, onMet, onPoll, asksAt, go, toldAt, told}
@@ -150,10 +150,17 @@ module _ (w : Work) (left : Progress → List Command) (room : Progress → Type
     proceed-lives j su pr l (Refuse e) h v m = absurd v
 
     reading-lives : (j n t : ℕ) (su : Setup) (pr : Progress) (l : ℕ) (bs : List ℕ) (f : GetStatusMessage → Session) → 6 ≤ length bs → Lives j n t (go (f (messageOf bs)))
-        → Lives j n t (go (reading su pr l (replyOf bs) f))
+        → Lives j n t (go (reading su pr l (firstReply bs) f))
     reading-lives j n t su pr l bs f h v =
         let e : ltb (length bs) 6 ≡ false = le-ltb _ _ h in
         rw e v
+
+    strict-lives : (j n t : ℕ) (su : Setup) (pr : Progress) (l : ℕ) (bs : List ℕ) (f : GetStatusMessage → Session) → 6 ≤ length bs
+        → statusByte ((messageOf bs) .status) ≡ 0 → Lives j n t (go (f (messageOf bs))) → Lives j n t (go (reading su pr l (laterReply bs) f))
+    strict-lives j n t su pr l bs f h z v =
+        let e : ltb (length bs) 6 ≡ false = le-ltb _ _ h in
+        let o : eqb (statusByte ((messageOf bs) .status)) 0 ≡ true = eq-eqb _ _ z in
+        rw (e, o) v
 
     module _ (j : ℕ) (su : Setup) (pr : Progress) (l : ℕ) (v : room pr) where
       first-lives : (m : GetStatusMessage) → needAt k j su pr First ≤ l → Lives j (needAt k j su pr First) (tellsAt k j su pr First) (go (onFirst su pr l m))
@@ -223,7 +230,7 @@ module _ (w : Work) (left : Progress → List Command) (room : Progress → Type
       livesAt j pr l Clear failed v f m = absurd f
       livesAt j pr l Second (count n) v f m = absurd f
       livesAt j pr l Second (reply bs) v f m =
-          reading-lives j _ _ su pr l bs _ (f .0) (second-lives j su pr l v (messageOf bs) _ (law .heads pr) (law .wants pr v) m (f .1))
+          strict-lives j _ _ su pr l bs _ (f .0) (f .1 .0) (second-lives j su pr l v (messageOf bs) _ (law .heads pr) (law .wants pr v) m (f .1 .1))
       livesAt j pr l Second waited v f m = absurd f
       livesAt j pr l Second wasReset v f m = absurd f
       livesAt j pr l Second failed v f m = absurd f
@@ -240,7 +247,7 @@ module _ (w : Work) (left : Progress → List Command) (room : Progress → Type
       livesAt j pr l (Waiting (Pause b t ms)) failed v f m = absurd f
       livesAt j pr l (Waiting (Poll b t)) (count n) v f m = absurd f
       livesAt j pr l (Waiting (Poll b t)) (reply bs) v f m =
-          reading-lives (j - 1) _ _ su pr l bs _ (f .0) (poll-lives j su pr l v b t (messageOf bs) _ (law .heads pr) (law .wants pr v) m (f .1))
+          strict-lives (j - 1) _ _ su pr l bs _ (f .0) (f .1 .0) (poll-lives j su pr l v b t (messageOf bs) _ (law .heads pr) (law .wants pr v) m (f .1 .1))
       livesAt j pr l (Waiting (Poll b t)) waited v f m = absurd f
       livesAt j pr l (Waiting (Poll b t)) wasReset v f m = absurd f
       livesAt j pr l (Waiting (Poll b t)) failed v f m = absurd f
@@ -259,6 +266,7 @@ Silent e = (h : List Event) → (transfers (e ++ h) ≡ transfers h) × (cleared
 shown-silent : (r : Reply) → Silent (shownBy r)
 unfolding transfers cleared
 shown-silent (ShortReply got) h = (refl, refl)
+shown-silent (BadStatus status) h = (refl, refl)
 shown-silent (Read m) h = (refl, refl)
 
 first-silent : (a : Answer) → Silent (shownFirst a)

@@ -60,6 +60,8 @@ use Rattle.get_status.proofs.Status.byte.Kinds as status-byte-kinds
 use Rattle.get_status.proofs.Status.byte.Reads as status-byte-reads
 use Rattle.get_status.proofs.GetStatusMessage.from_bytes.Kinds as reply-kinds
 use Rattle.get_status.proofs.GetStatusMessage.from_bytes.Reads as reply-reads
+use Rattle.get_status.proofs.GetStatusMessage.strict_from_bytes.Kinds as strict-reply-kinds
+use Rattle.get_status.proofs.GetStatusMessage.strict_from_bytes.Reads as strict-reply-reads
 use Rattle.get_status.proofs.GetStatusMessage.judge.Kinds as judge-kinds
 use Rattle.get_status.proofs.GetStatusMessage.judge.Reads as judge-reads
 use Rattle.memory_layout.proofs.number.decimal.Kinds as decimal-kinds
@@ -133,6 +135,9 @@ pinned-status-byte κs a x y s t p q = p ∙ sym q
 
 pub pinned-reply : Pins reply-kinds.ps reply-kinds.r {R = Reply} reply-reads.Post (λ κs r s. r)
 pinned-reply κs a x y s t p q = p ∙ sym q
+
+pub pinned-strict-reply : Pins strict-reply-kinds.ps strict-reply-kinds.r {R = Reply} strict-reply-reads.Post (λ κs r s. r)
+pinned-strict-reply κs a x y s t p q = p ∙ sym q
 
 pub pinned-judge : Pins judge-kinds.ps judge-kinds.r {R = Met} judge-reads.Post (λ κs r s. r)
 pinned-judge κs a x y s t p q = p ∙ sym q

@@ -8,7 +8,7 @@ use mathlib.Core.List.{List, [], _∷_}
 use lib.ListN.{length}
 use Rattle.ground.specs.Bytes.{littleEndian, field}
 use Rattle.protocol.specs.declared.DfuProtocol.the-variants.{Dfuse}
-use Rattle.session.specs.Machine.{Answer, count, waited, mk, onFirst, onSecond, onPoll, told}
+use Rattle.session.specs.Machine.{Answer, count, reply, waited, mk, onFirst, onSecond, onPoll, told}
 use Rattle.session.specs.Download.{download, covering, eraseNext, writeNext, nextOf, tookOf}
 use Rattle.session.specs.Start.{setupOf, fresh, begunOf, beginOf}
 use Rattle.session.specs.declared.Error.the-variants.{BudgetSpent}
@@ -36,8 +36,9 @@ begunWith l = mk (setupOf counter (Dfuse 0) 1 2) (fresh (setupOf counter (Dfuse 
 abbrev slow : ℕ → ℕ → ℕ → List Answer → List Answer
 slow n busy target more = count n ∷ waited ∷ shows busy ∷ waited ∷ shows busy ∷ waited ∷ shows target ∷ more
 
+-- the first reply reports a failed write, which is cleared
 abbrev answers : List Answer
-answers = shows 10 ∷ count 0 ∷ shows 2 ∷ slow 5 4 5 (slow 5 4 5 (slow 1 4 5 (slow 0 7 2 [])))
+answers = reply (3 ∷ 0 ∷ 0 ∷ 0 ∷ 10 ∷ 0 ∷ []) ∷ count 0 ∷ shows 2 ∷ slow 5 4 5 (slow 5 4 5 (slow 1 4 5 (slow 0 7 2 [])))
 
 pub reached-begins : Begins counter (Dfuse 0) (7 ∷ []) pages 19 (begunWith 18) × Begins counter (Dfuse 0) (7 ∷ []) pages 18 (begunWith 17)
 unfolding beginOf begunOf
@@ -52,52 +53,52 @@ reached-fair =
       (
         tt,
         (
-          (six, refl),
+          (six, (refl, refl)),
           (
             n,
             (
               tt,
               (
-                (six, inr (refl, omega arith)),
+                (six, (refl, inr (refl, omega arith))),
                 (
                   tt,
                   (
-                    (six, inr (refl, omega arith)),
+                    (six, (refl, inr (refl, omega arith))),
                     (
                       tt,
                       (
-                        (six, inl refl),
+                        (six, (refl, inl refl)),
                         (
                           n,
                           (
                             tt,
                             (
-                              (six, inr (refl, omega arith)),
+                              (six, (refl, inr (refl, omega arith))),
                               (
                                 tt,
                                 (
-                                  (six, inr (refl, omega arith)),
+                                  (six, (refl, inr (refl, omega arith))),
                                   (
                                     tt,
                                     (
-                                      (six, inl refl),
+                                      (six, (refl, inl refl)),
                                       (
                                         omega arith,
                                         (
                                           tt,
                                           (
-                                            (six, inr (refl, omega arith)),
+                                            (six, (refl, inr (refl, omega arith))),
                                             (
                                               tt,
                                               (
-                                                (six, inr (refl, omega arith)),
+                                                (six, (refl, inr (refl, omega arith))),
                                                 (
                                                   tt,
                                                   (
-                                                    (six, inl refl),
+                                                    (six, (refl, inl refl)),
                                                     (
                                                       omega arith,
-                                                      (tt, ((six, inr (refl, omega arith)), (tt, ((six, inr (refl, omega arith)), (tt, ((six, inl refl), tt)))))),
+                                                      (tt, ((six, (refl, inr (refl, omega arith))), (tt, ((six, (refl, inr (refl, omega arith))), (tt, ((six, (refl, inl refl)), tt)))))),
                                                     ),
                                                   ),
                                                 ),

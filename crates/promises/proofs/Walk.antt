@@ -11,7 +11,7 @@ use Rattle.get_status.specs.Names.{stateByte}
 use Rattle.get_status.specs.declared.State.{State}
 use Rattle.get_status.specs.declared.GetStatusMessage.{GetStatusMessage}
 use Rattle.get_status.specs.declared.Reply.{Reply}
-use Rattle.get_status.specs.declared.Reply.the-variants.{ResponseTooShort as ShortReply, Read}
+use Rattle.get_status.specs.declared.Reply.the-variants.{ResponseTooShort as ShortReply, StatusError as BadStatus, Read}
 use Rattle.get_status.specs.declared.Met.{Met}
 use Rattle.session.specs.Machine.{Answer, count, reply, waited, wasReset, failed, Work, mk, refuse, issue, endPhase, proceed, waitAfter, firstReply, laterReply, reading, onFirst, onSecond, onMet, onPoll, asksAt, go, stay, toldAt, told}
 use Rattle.session.specs.declared.Command.{Command}
@@ -21,7 +21,7 @@ use Rattle.session.specs.declared.Request.the-variants.{GetStatus, ClearStatus,
 use Rattle.session.specs.declared.Wait.{Wait}
 use Rattle.session.specs.declared.Wait.the-variants.{Pause, Poll}
 use Rattle.session.specs.declared.Error.{Error}
-use Rattle.session.specs.declared.Error.the-variants.{InvalidState, MaximumTransferSizeExceeded, EraseLimitReached, NoSpaceLeft, ResponseTooShort, BudgetSpent, NotAwaited, NotAsAtStart, Failed}
+use Rattle.session.specs.declared.Error.the-variants.{InvalidState, MaximumTransferSizeExceeded, EraseLimitReached, NoSpaceLeft, ResponseTooShort, BudgetSpent, NotAwaited, NotAsAtStart, Failed, StatusError}
 use Rattle.session.specs.declared.End.{End}
 use Rattle.session.specs.declared.End.the-variants.{Stays, Reset}
 use Rattle.session.specs.declared.Phase.{Phase}
@@ -61,6 +61,7 @@ Ending BudgetSpent = Unit
 Ending NotAwaited = ⊥
 Ending NotAsAtStart = ⊥
 Ending Failed = Unit
+Ending (StatusError status) = Unit
 
 module _ (w : Work) (su : Setup) (F : Command → ℕ → Type 0) (c : Claims) where
   abbrev pub WaitingAt : Wait → Progress → ℕ → List Event → Type 0
@@ -168,6 +169,7 @@ module _ (w : Work) (su : Setup) (F : Command → ℕ → Type 0) (c : Claims) w
     reading-kept : (pr : Progress) (l : ℕ) (h : List Event) (r : Reply) (f : GetStatusMessage → Session) → c .always l h
         → ((m : GetStatusMessage) → Kept (hears (stateByte (m .state)) ∷ h) (go (f m))) → Kept (shownBy r ++ h) (go (reading su pr l r f))
     reading-kept pr l h (ShortReply got) f v k = refuse-kept pr l h _ tt v
+    reading-kept pr l h (BadStatus status) f v k = refuse-kept pr l h _ tt v
     reading-kept pr l h (Read m) f v k = k m
 
     first-kept : (pr : Progress) (l : ℕ) (h : List Event) (m : GetStatusMessage) → c .atFirst pr l h

@@ -6,8 +6,9 @@ use mathlib.Core.Path.{_≡_}
 use mathlib.Core.List.{List, [], _∷_}
 use lib.ListN.{length}
 use Rattle.ground.specs.Pick.{pick}
-use Rattle.get_status.specs.Names.{stateByte}
+use Rattle.get_status.specs.Names.{stateByte, statusByte}
 use Rattle.get_status.specs.Reply.{messageOf}
+use Rattle.get_status.specs.declared.GetStatusMessage.{GetStatusMessage}
 use Rattle.memory_layout.specs.Layout.{maxPages}
 use Rattle.protocol.specs.declared.DfuProtocol.{DfuProtocol}
 use Rattle.session.specs.Machine.{Answer, count, reply, waited, wasReset, failed, Work, told}
@@ -74,13 +75,17 @@ heededBy f s (a ∷ more) = pick (awaited (s .phase) a) (a ∷ heededBy f ((f s 
 abbrev pub heeded : Work → Session → List Answer → List Answer
 heeded w s more = heededBy (told w) s more
 
--- a reply of 6 bytes or more that shows a fitting state
-abbrev pub FineReply : (ℕ → Type 0) → Answer → Type 0
-FineReply shows (count n) = ⊥
-FineReply shows (reply bs) = (6 ≤ length bs) × shows (stateByte ((messageOf bs) .state))
-FineReply shows waited = ⊥
-FineReply shows wasReset = ⊥
-FineReply shows failed = ⊥
+-- a reply of 6 bytes or more whose message fits
+abbrev pub FineReply : (GetStatusMessage → Type 0) → Answer → Type 0
+FineReply fits (count n) = ⊥
+FineReply fits (reply bs) = (6 ≤ length bs) × fits (messageOf bs)
+FineReply fits waited = ⊥
+FineReply fits wasReset = ⊥
+FineReply fits failed = ⊥
+
+-- status 0, and a fitting state: of every reply but the first
+abbrev pub Okay : (ℕ → Type 0) → GetStatusMessage → Type 0
+Okay shows m = (statusByte (m .status) ≡ 0) × shows (stateByte (m .state))
 
 abbrev pub FineCount : (ℕ → Type 0) → Answer → Type 0
 FineCount fits (count n) = fits n
@@ -103,14 +108,14 @@ FineReset waited = ⊥
 FineReset wasReset = Unit
 FineReset failed = ⊥
 
--- the awaited answer: a full write; the second status idle; in a wait the target, or busy while j busy replies are still allowed
+-- the awaited answer: a full write; status 0 in every reply but the first; the second state idle; in a wait the target, or busy while j busy replies are still allowed
 abbrev pub Fine : ℕ → Phase → Answer → Type 0
-Fine j First a = FineReply (λ st. Unit) a
+Fine j First a = FineReply (λ m. Unit) a
 Fine j Clear a = FineCount (λ n. Unit) a
-Fine j Second a = FineReply (λ st. st ≡ 2) a
+Fine j Second a = FineReply (Okay (λ st. st ≡ 2)) a
 Fine j (Sent c) a = FineCount (λ n. Full c n) a
 Fine j (Waiting (Pause b t ms)) a = FineWait a
-Fine j (Waiting (Poll b t)) a = FineReply (λ st. (st ≡ stateByte t) ⊎ ((st ≡ stateByte b) × (0 < j))) a
+Fine j (Waiting (Poll b t)) a = FineReply (Okay (λ st. (st ≡ stateByte t) ⊎ ((st ≡ stateByte b) × (0 < j)))) a
 Fine j Resetting a = FineReset a
 Fine j (Finished e) a = Unit
 Fine j (Refused e) a = Unit

@@ -3,6 +3,7 @@ pub mod Run
 pub mod Calls
 pub mod Whole
 pub mod Fair
+pub mod Believed
 pub mod Finish
 pub mod Machines
 pub mod Samples

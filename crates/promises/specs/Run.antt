@@ -3,7 +3,7 @@ use Prim.Native.Nat.{ℕ, suc, _≤_}
 use mathlib.Core.List.{List, [], _∷_, _++_}
 use Rattle.get_status.specs.Names.{stateByte}
 use Rattle.get_status.specs.declared.Reply.{Reply}
-use Rattle.get_status.specs.declared.Reply.the-variants.{ResponseTooShort as ShortReply, Read}
+use Rattle.get_status.specs.declared.Reply.the-variants.{ResponseTooShort as ShortReply, StatusError as BadStatus, Read}
 use Rattle.plan.specs.Answers.{wholeOf}
 use Rattle.session.specs.Machine.{Answer, count, reply, waited, wasReset, failed, Work, firstReply, laterReply, asksAt, told}
 use Rattle.session.specs.declared.Session.{Session}
@@ -30,9 +30,10 @@ sentBy ResetBus = []
 sentBy (HasFinished e) = []
 sentBy (SaysNo e) = []
 
--- the state that a reply shows, if it can be read
+-- the state that a reply shows, if it is read
 abbrev pub shownBy : Reply → List Event
 shownBy (ShortReply got) = []
+shownBy (BadStatus status) = []
 shownBy (Read m) = hears (stateByte (m .state)) ∷ []
 
 abbrev pub shownFirst : Answer → List Event

@@ -1,4 +1,4 @@
--- Document 01's starred cases and published interface strings: a table, run on the definitions.
+-- Document 01's starred cases, the failed write of W4 and published interface strings: a table, run on the definitions.
 use Prim.Native.Nat.{ℕ}
 use Prim.Native.String.{String}
 use mathlib.Core.List.{List, [], _∷_}
@@ -12,7 +12,7 @@ use Rattle.protocol.specs.declared.DfuProtocol.{DfuProtocol}
 use Rattle.protocol.specs.declared.DfuProtocol.the-variants.{Dfu, Dfuse}
 use Rattle.session.specs.declared.Command.the-variants.{Erase, SetAddress, Block, Empty}
 use Rattle.session.specs.declared.Request.{Request}
-use Rattle.session.specs.declared.Request.the-variants.{GetStatus, Command as Sends}
+use Rattle.session.specs.declared.Request.the-variants.{GetStatus, ClearStatus, Command as Sends}
 use Rattle.session.specs.declared.Session.{Session}
 use Rattle.session.specs.declared.Stage.the-variants.{Erasing, Ending}
 use Rattle.session.specs.declared.End.the-variants.{Stays}
@@ -21,7 +21,7 @@ use Rattle.session.specs.declared.Phase.the-variants.{Finished, Refused as Ende
 use Rattle.session.specs.declared.start.DfuSansIo.{DfuSansIo}
 use Rattle.session.specs.declared.start.Started.{Started}
 use Rattle.session.specs.declared.start.Started.the-variants.{Session as Begun, Refused}
-use Rattle.session.specs.Machine.{Answer, waited, wasReset, count as counts, mk, asksAt, saidAsk}
+use Rattle.session.specs.Machine.{Answer, reply, waited, wasReset, count as counts, mk, asksAt, saidAsk}
 use Rattle.session.specs.Download.{download}
 use Rattle.session.specs.Start.{beginOf, saidStart}
 use Rattle.plan.specs.Plan.{sum}
@@ -79,6 +79,10 @@ write n b more = counts n ∷ waited ∷ shows b ∷ more
 
 abbrev pub idle : List Answer → List Answer
 idle more = shows 2 ∷ shows 2 ∷ more
+
+-- a reply that shows a state, with the status of a failed write
+abbrev pub failing : ℕ → Answer
+failing b = reply (3 ∷ 0 ∷ 0 ∷ 0 ∷ b ∷ 0 ∷ [])
 
 -- a case: what is read, and what it is read as
 pub data Case : Type 0 where
@@ -147,6 +151,8 @@ cases =
     (runs (GetStatus ∷ GetStatus ∷ Sends (Erase 0) ∷ GetStatus ∷ Sends (Erase 1024) ∷ GetStatus ∷ []) (says 5 []))
     ∷ sessionRun (plain 8 10 64) (idle (write 5 5 (write 5 5 [])))
     (runs (GetStatus ∷ GetStatus ∷ Sends (Block 0 0 8) ∷ GetStatus ∷ Sends (Block 1 5 5) ∷ GetStatus ∷ Sends (Empty 2) ∷ []) (says 0 []))
+    ∷ sessionRun (plain 8 10 64) (failing 10 ∷ counts 0 ∷ shows 2 ∷ counts 8 ∷ waited ∷ failing 5 ∷ [])
+    (runs (GetStatus ∷ ClearStatus ∷ GetStatus ∷ Sends (Block 0 0 8) ∷ GetStatus ∷ []) (says 27 (3 ∷ [])))
     ∷ sessionRun (whole 14) wholeAnswers (runs (wholeTransfers (GetStatus ∷ [])) (says 0 []))
     ∷ sessionRun (whole 13) wholeAnswers (runs (wholeTransfers []) (says 23 []))
     ∷ sessionEnd tolerant (idle (write 4 5 (write 0 2 [])))

@@ -82,5 +82,6 @@ pub fn session(error: Error) {
         Error::NotAwaited => refused(24, b"an answer is not awaited"),
         Error::NotAsAtStart => refused(25, b"what is lent is not as it was at start"),
         Error::Failed => refused(26, b"a transfer failed"),
+        Error::StatusError { status: _ } => refused(27, b"the device reports an error"),
     }
 }

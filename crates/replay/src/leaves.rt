@@ -58,7 +58,7 @@ pub fn reply(line: &[u8], bytes: &mut [u8], out: &mut [u8], at: usize) -> usize 
     match read {
         Bytes::Bad => output::bad_line(out, at),
         Bytes::Read { len, end: _ } => {
-            let r = GetStatusMessage::from_bytes(words::first(bytes, len));
+            let r = GetStatusMessage::strict_from_bytes(words::first(bytes, len));
             let at = reply_words(r, out, at);
             output::line_end(out, at)
         }
@@ -69,6 +69,9 @@ fn reply_words(r: Reply, out: &mut [u8], at: usize) -> usize {
     let at = output::text(out, at, b"reply");
     match r {
         Reply::ResponseTooShort { got } => output::refused(out, at, Refusal::Two(6, got as u64, 6)),
+        Reply::StatusError { status } => {
+            output::refused(out, at, Refusal::One(27, status.byte() as u64))
+        }
         Reply::Read(m) => output::values(out, at, &message(m)),
     }
 }

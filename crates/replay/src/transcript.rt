@@ -81,6 +81,7 @@ fn refusal_of(e: Error) -> Refusal {
         Error::NotAwaited => Refusal::Plain(24),
         Error::NotAsAtStart => Refusal::Plain(25),
         Error::Failed => Refusal::Plain(26),
+        Error::StatusError { status } => Refusal::One(27, status.byte() as u64),
     }
 }
 

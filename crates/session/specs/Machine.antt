@@ -4,13 +4,13 @@ use mathlib.Core.List.{List, [], _∷_}
 use lib.Dec.{eqb}
 use Rattle.ground.specs.Pick.{pick}
 use Rattle.ground.specs.Said.{Said, says}
-use Rattle.get_status.specs.Names.{stateByte}
-use Rattle.get_status.specs.Reply.{replyOf, judged}
+use Rattle.get_status.specs.Names.{stateByte, statusByte}
+use Rattle.get_status.specs.Reply.{replyOf, strictReplyOf, judged}
 use Rattle.get_status.specs.declared.State.{State}
 use Rattle.get_status.specs.declared.State.the-variants.{DfuIdle, DfuDnbusy, DfuDnloadIdle, DfuManifest}
 use Rattle.get_status.specs.declared.GetStatusMessage.{GetStatusMessage}
 use Rattle.get_status.specs.declared.Reply.{Reply}
-use Rattle.get_status.specs.declared.Reply.the-variants.{ResponseTooShort as ShortReply, Read}
+use Rattle.get_status.specs.declared.Reply.the-variants.{ResponseTooShort as ShortReply, StatusError as BadStatus, Read}
 use Rattle.get_status.specs.declared.Met.{Met}
 use Rattle.get_status.specs.declared.Met.the-variants.{Reached, Busy, InvalidState as Wrong}
 use Rattle.session.specs.declared.Command.{Command}
@@ -19,7 +19,7 @@ use Rattle.session.specs.declared.Request.the-variants.{GetStatus, Clear
 use Rattle.session.specs.declared.Wait.{Wait}
 use Rattle.session.specs.declared.Wait.the-variants.{Pause, Poll}
 use Rattle.session.specs.declared.Error.{Error}
-use Rattle.session.specs.declared.Error.the-variants.{InvalidState, MaximumTransferSizeExceeded, EraseLimitReached, NoSpaceLeft, ResponseTooShort, BudgetSpent, NotAwaited, NotAsAtStart, Failed}
+use Rattle.session.specs.declared.Error.the-variants.{InvalidState, MaximumTransferSizeExceeded, EraseLimitReached, NoSpaceLeft, ResponseTooShort, BudgetSpent, NotAwaited, NotAsAtStart, Failed, StatusError}
 use Rattle.session.specs.declared.End.the-variants.{Stays, Reset}
 use Rattle.session.specs.declared.Phase.{Phase}
 use Rattle.session.specs.declared.Phase.the-variants.{First, Clear, Second, Sent, Waiting, Resetting, Finished, Refused}
@@ -74,16 +74,17 @@ waitAfter su (SetAddress a) = Pause DfuDnbusy DfuDnloadIdle 0
 waitAfter su (Block n f m) = Pause DfuDnbusy DfuDnloadIdle 0
 waitAfter su (Empty n) = Pause DfuManifest (pick (su .tolerant) DfuIdle DfuManifest) 0
 
--- how the first reply of a session is read, and how every later one is
+-- the first reply of a session may report the error that CLRSTATUS clears; every later one must have status 0
 abbrev pub firstReply : List ℕ → Reply
 firstReply bs = replyOf bs
 
 abbrev pub laterReply : List ℕ → Reply
-laterReply bs = replyOf bs
+laterReply bs = strictReplyOf bs
 
 -- a reply that can't be read ends the session
 abbrev pub reading : Setup → Progress → ℕ → Reply → (GetStatusMessage → Session) → Session
 reading su pr l (ShortReply got) f = refuse su pr l (ResponseTooShort got)
+reading su pr l (BadStatus status) f = refuse su pr l (StatusError status)
 reading su pr l (Read m) f = f m
 
 -- if state 10, CLRSTATUS; GETSTATUS again
@@ -182,6 +183,7 @@ saidError BudgetSpent = says 23 []
 saidError NotAwaited = says 24 []
 saidError NotAsAtStart = says 25 []
 saidError Failed = says 26 []
+saidError (StatusError status) = says 27 (statusByte status ∷ [])
 
 abbrev pub saidAsk : Ask → Said
 saidAsk (Transfer q) = says 0 []

@@ -5,6 +5,7 @@ pub mod synchronous;
 pub mod wire;
 
 use get_status::State;
+use get_status::Status;
 
 // A download request, by what it means.
 pub enum Command {
@@ -51,6 +52,8 @@ pub enum Error {
     NotAsAtStart,
     // 26: the host says that a transfer or the reset failed
     Failed,
+    // 27: a reply but the first has a status other than 0
+    StatusError { status: Status },
 }
 
 // How a session finished.

@@ -165,6 +165,12 @@ fn first_reply(setup: Setup, progress: Progress, left: u64, bytes: &[u8]) -> Ses
             left,
             Error::ResponseTooShort { got },
         ),
+        Reply::StatusError { status } => refused(
+            setup,
+            progress,
+            left,
+            Error::StatusError { status },
+        ),
         Reply::Read(message) => {
             let state = message.state;
             if state.byte() == 10 {
@@ -179,13 +185,19 @@ fn first_reply(setup: Setup, progress: Progress, left: u64, bytes: &[u8]) -> Ses
 fn second_reply(setup: Setup, progress: Progress, left: u64, todo: Todo, bytes: &[u8]) -> Session
     ensures { λ r. ⌜ r ≡ reading setup progress left (laterReply (now (bytes .entry))) (onSecond setup progress left todo) ⌝ }
 {
-    let reply = GetStatusMessage::from_bytes(bytes);
+    let reply = GetStatusMessage::strict_from_bytes(bytes);
     match reply {
         Reply::ResponseTooShort { got } => refused(
             setup,
             progress,
             left,
             Error::ResponseTooShort { got },
+        ),
+        Reply::StatusError { status } => refused(
+            setup,
+            progress,
+            left,
+            Error::StatusError { status },
         ),
         Reply::Read(message) => {
             let got = message.state;
@@ -250,13 +262,19 @@ fn wait_reply(
 ) -> Session
     ensures { λ r. ⌜ r ≡ reading setup progress left (laterReply (now (bytes .entry))) (onPoll setup progress left busy target todo) ⌝ }
 {
-    let reply = GetStatusMessage::from_bytes(bytes);
+    let reply = GetStatusMessage::strict_from_bytes(bytes);
     match reply {
         Reply::ResponseTooShort { got } => refused(
             setup,
             progress,
             left,
             Error::ResponseTooShort { got },
+        ),
+        Reply::StatusError { status } => refused(
+            setup,
+            progress,
+            left,
+            Error::StatusError { status },
         ),
         Reply::Read(message) => met(
             setup,

@@ -200,6 +200,10 @@ impl Inventor<'_> {
         } else if self.rng.one_in(12) {
             bytes.resize(6 + self.rng.index(spare.min(20) + 1), 0xaa);
         }
+        // only the first reply of a session may have another status
+        if self.spent > 1 && bytes.len() >= 6 {
+            bytes[0] = 0;
+        }
         bytes
     }
 }

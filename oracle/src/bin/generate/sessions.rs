@@ -143,14 +143,19 @@ fn replacements(ask: &Ask) -> Vec<Told> {
     }
 }
 
-/// Replies of every state, of every short length, with bytes to spare, with other statuses, times and indexes.
+/// Replies of every state, of every short length, with bytes to spare, with other times, indexes and statuses. Those
+/// with another status stay in where they are a session's first.
 fn every_reply() -> Vec<Told> {
     let states = (0..=255).map(|state| vec![0, 0, 0, 0, state, 0]);
-    let lengths = [0, 1, 2, 3, 4, 5, 7, 8].map(|length| vec![4; length]);
-    let statuses = [1, 3, 0x0f, 0x10, 0xff].map(|status| vec![status, 0, 0, 0, 5, 0]);
-    let busy = [4, 3, 7, 6].map(|state| vec![0xff, 0xff, 0xfe, 0xfd, state, 0xff]);
+    let lengths = [0, 1, 2, 3, 4, 5].map(|length| vec![4; length]);
+    let longer = [7, 8].map(|length| [vec![0], vec![4; length - 1]].concat());
+    let statuses = [1, 3, 0x0f, 0x10, 0xff]
+        .into_iter()
+        .flat_map(|status| [5, 10].map(|state| vec![status, 0, 0, 0, state, 0]));
+    let busy = [4, 3, 7, 6].map(|state| vec![0, 0xff, 0xfe, 0xfd, state, 0xff]);
     states
         .chain(lengths)
+        .chain(longer)
         .chain(statuses)
         .chain(busy)
         .map(Told::Reply)

@@ -1,0 +1,94 @@
+-- Any work: a run that isn't refused was told no error; each reply but the first had 6 bytes or more and status 0. Assumes nothing.
+use Prim.Native.Nat.{ℕ, _≤_}
+use mathlib.Core.Path.{_≡_, refl}
+use mathlib.Core.Bool.{Bool, true, false}
+use mathlib.Core.List.{List, [], _∷_}
+use lib.Dec.{eqb, ltb}
+use lib.ListN.{length}
+use borrow.Author.Tests.{ltb-false, eqb-true}
+use Rattle.ground.specs.Pick.{pick}
+use Rattle.get_status.specs.Names.{statusByte}
+use Rattle.get_status.specs.Reply.{messageOf, strict}
+use Rattle.get_status.specs.declared.GetStatusMessage.{GetStatusMessage}
+use Rattle.get_status.specs.declared.Reply.the-variants.{ResponseTooShort as ShortReply, StatusError as BadStatus, Read}
+use Rattle.session.specs.Machine.{Answer, count, reply, waited, wasReset, failed, Work, laterReply, reading, toldAt, told}
+use Rattle.session.specs.declared.Wait.the-variants.{Pause, Poll}
+use Rattle.session.specs.declared.Phase.{Phase}
+use Rattle.session.specs.declared.Phase.the-variants.{First, Clear, Second, Sent, Waiting, Resetting, Finished, Refused}
+use Rattle.session.specs.declared.Progress.{Progress}
+use Rattle.session.specs.declared.Setup.{Setup}
+use Rattle.session.specs.declared.Session.{Session}
+use Rattle.promises.specs.Run.{World, tell, after, afterBy, Unrefused, Over}
+use Rattle.promises.specs.Believed.{Sound, SoundAt, AllSound}
+
+-- a later reply after which the session isn't refused
+read-sound : (su : Setup) (pr : Progress) (l : ℕ) (bs : List ℕ) (f : GetStatusMessage → Session) → Unrefused ((reading su pr l (laterReply bs) f) .phase) → Sound (reply bs)
+read-sound su pr l bs f u = by (ltb (length bs) 6) refl u
+  where
+    m : GetStatusMessage
+    m = messageOf bs
+
+    status : (c : Bool) → eqb (statusByte (m .status)) 0 ≡ c → Unrefused ((reading su pr l (pick c (Read m) (BadStatus (m .status))) f) .phase) → statusByte (m .status) ≡ 0
+    status true e v = eqb-true _ _ e
+    status false e v = absurd v
+
+    by : (b : Bool) → ltb (length bs) 6 ≡ b → Unrefused ((reading su pr l (strict (pick b (ShortReply (length bs)) (Read m))) f) .phase) → Sound (reply bs)
+    by true e v = absurd v
+    by false e v = (ltb-false _ _ e, status (eqb (statusByte (m .status)) 0) refl v)
+
+step-sound : (w : Work) (su : Setup) (pr : Progress) (l : ℕ) (p : Phase) (a : Answer) → Unrefused ((toldAt w su pr l p a) .next .phase) → SoundAt p a
+step-sound w su pr l First a u = tt
+step-sound w su pr l Clear a u = tt
+step-sound w su pr l Second (count n) u = tt
+step-sound w su pr l Second (reply bs) u = read-sound su pr l bs _ u
+step-sound w su pr l Second waited u = tt
+step-sound w su pr l Second wasReset u = tt
+step-sound w su pr l Second failed u = tt
+step-sound w su pr l (Sent c) a u = tt
+step-sound w su pr l (Waiting (Pause b t ms)) a u = tt
+step-sound w su pr l (Waiting (Poll b t)) (count n) u = tt
+step-sound w su pr l (Waiting (Poll b t)) (reply bs) u = read-sound su pr l bs _ u
+step-sound w su pr l (Waiting (Poll b t)) waited u = tt
+step-sound w su pr l (Waiting (Poll b t)) wasReset u = tt
+step-sound w su pr l (Waiting (Poll b t)) failed u = tt
+step-sound w su pr l Resetting a u = tt
+step-sound w su pr l (Finished e) a u = tt
+step-sound w su pr l (Refused e) a u = tt
+
+-- a session that isn't refused never was
+step-back : (w : Work) (su : Setup) (pr : Progress) (l : ℕ) (p : Phase) (a : Answer) → Unrefused ((toldAt w su pr l p a) .next .phase) → Unrefused p
+step-back w su pr l First a u = tt
+step-back w su pr l Clear a u = tt
+step-back w su pr l Second a u = tt
+step-back w su pr l (Sent c) a u = tt
+step-back w su pr l (Waiting x) a u = tt
+step-back w su pr l Resetting a u = tt
+step-back w su pr l (Finished e) a u = tt
+step-back w su pr l (Refused e) a u = u
+
+run-back : (w : Work) (x : World) (more : List Answer) → Unrefused ((after w x more) .session .phase) → Unrefused (x .session .phase)
+unfolding afterBy told
+run-back w x [] u = u
+run-back w x (a ∷ more) u =
+    let s : Session = x .session in
+    step-back w (s .setup) (s .progress) (s .left) (s .phase) a (run-back w (tell w x a) more u)
+
+-- NO ERROR WAS TOLD
+pub unrefused-sound : (w : Work) (x : World) (more : List Answer) → Unrefused ((after w x more) .session .phase) → AllSound w (x .session) more
+unfolding afterBy told AllSound
+unrefused-sound w x [] u = tt
+unrefused-sound w x (a ∷ more) u =
+    let s : Session = x .session in (
+      step-sound w (s .setup) (s .progress) (s .left) (s .phase) a (run-back w (tell w x a) more u),
+      unrefused-sound w (tell w x a) more u,
+    )
+
+pub over-unrefused : (p : Phase) → Over p → Unrefused p
+over-unrefused First o = tt
+over-unrefused Clear o = tt
+over-unrefused Second o = tt
+over-unrefused (Sent c) o = tt
+over-unrefused (Waiting x) o = tt
+over-unrefused Resetting o = tt
+over-unrefused (Finished e) o = tt
+over-unrefused (Refused e) o = o
