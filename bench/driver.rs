@@ -26,7 +26,7 @@ extern "C" {
 }
 
 const REFUSED: u64 = 1 << 63;
-const PAGES: usize = 512;
+const PAGES: usize = 4096;
 const BLOCKS: usize = 10_000;
 const SIZE: u16 = 64;
 const ADDRESS: u32 = 0x0800_0000;
@@ -240,20 +240,13 @@ fn main() {
         .nth(1)
         .map_or(1000, |n| n.parse().expect("a number of rounds"));
     refusals();
-    layout(
-        "layout, 512 pages in 64 pieces",
-        &["8*1Kg"; 64].join(","),
-        PAGES,
-        ("a page", PAGES),
-        rounds,
-    );
-    layout(
-        "layout, 512 pages in 1 piece",
-        "512*1Kg",
-        PAGES,
-        ("a page", PAGES),
-        rounds,
-    );
+    for (pages, piece) in [(512, "8*1Kg"), (PAGES, "64*1Kg")] {
+        let per = ("a page", pages);
+        let pieces = [piece; 64].join(",");
+        layout(&format!("layout, {pages} pages in 64 pieces"), &pieces, pages, per, rounds);
+        let one = format!("{pages}*1Kg");
+        layout(&format!("layout, {pages} pages in 1 piece"), &one, pages, per, rounds);
+    }
     // The text of bench/digits: ten-digit numbers, but for the last piece, which fills 1,024 bytes.
     let text = "0000000001*0000000001Kg,".repeat(42) + "000001*0000001Kg";
     let digits = text.bytes().filter(u8::is_ascii_digit).count();

@@ -4,7 +4,7 @@
 use crate::case::{Kind, Target};
 
 const LONGEST_TEXT: usize = 1_024;
-const MOST_PAGES: usize = 512;
+const MOST_PAGES: usize = 4_096;
 const REPLY: usize = 6;
 
 /// A layout text that both sides read the same way.
@@ -39,14 +39,14 @@ fn ascii(text: &[u8]) -> Option<&str> {
     short.then(|| std::str::from_utf8(text).ok())?
 }
 
-/// Whether products stay below 2^32 and pages within 512 and the store, up to the first piece at fault if there is one.
+/// Whether products stay below 2^32, pages within 4,096 and the store, and no unit is `B`, up to the first piece at fault if there is one.
 fn fits(store: usize, layout: &str) -> bool {
     let mut room = store.min(MOST_PAGES) as u64;
     for piece in layout.split(',') {
         let Some((count, page)) = read_piece(piece) else {
             return true;
         };
-        if page > u64::from(u32::MAX) || count > room {
+        if page.is_none_or(|page| page > u64::from(u32::MAX)) || count > room {
             return false;
         }
         room -= count;
@@ -54,16 +54,18 @@ fn fits(store: usize, layout: &str) -> bool {
     true
 }
 
-fn read_piece(piece: &str) -> Option<(u64, u64)> {
+/// A piece's count and page size, which is none where the unit is `B`: the Rust refuses it.
+fn read_piece(piece: &str) -> Option<(u64, Option<u64>)> {
     let (count, rest) = piece.split_once('*')?;
     let (size, tail) = rest.split_at(rest.len().checked_sub(2)?);
     let unit = match tail.as_bytes()[0] {
-        b'K' => 1 << 10,
-        b'M' => 1 << 20,
-        b' ' => 1,
+        b'K' => Some(1 << 10),
+        b'M' => Some(1 << 20),
+        b' ' => Some(1),
+        b'B' => None,
         _ => return None,
     };
     let count: u32 = count.parse().ok()?;
     let size: u32 = size.parse().ok()?;
-    Some((u64::from(count), u64::from(size) * unit))
+    Some((u64::from(count), unit.map(|unit: u64| u64::from(size) * unit)))
 }

@@ -19,9 +19,10 @@ use Rattle.memory_layout.specs.Layout.{factorOf, scaled, starred}
 -- a size times its unit fits 64 bits
 factor-most : (c : ℕ) → factorOf c ≤ 1048576
 factor-most c =
-    picked (λ (f : ℕ). f ≤ 1048576) (eqb c 75) 1024 (pick (eqb c 77) 1048576 (pick (eqb c 32) 1 0)) (λ e. omega arith)
-    (λ e. picked (λ (f : ℕ). f ≤ 1048576) (eqb c 77) 1048576 (pick (eqb c 32) 1 0) (λ e. omega arith)
-    (λ e. picked (λ (f : ℕ). f ≤ 1048576) (eqb c 32) 1 0 (λ e. omega arith) (λ e. omega arith)))
+    picked (λ (f : ℕ). f ≤ 1048576) (eqb c 75) _ _ (λ e. omega arith)
+    (λ e. picked (λ (f : ℕ). f ≤ 1048576) (eqb c 77) _ _ (λ e. omega arith)
+    (λ e. picked (λ (f : ℕ). f ≤ 1048576) (eqb c 66) _ _ (λ e. omega arith)
+    (λ e. picked (λ (f : ℕ). f ≤ 1048576) (eqb c 32) _ _ (λ e. omega arith) (λ e. omega arith))))
 
 pub product : (size c f : ℕ) → size < 4294967296 → f ≡ factorOf c → size * f < 2 ^ 64
 product size c f h e = let m : f ≤ 1048576 = omega (arith, factor-most c) in omega (arith, mul-le-mul-left size m)

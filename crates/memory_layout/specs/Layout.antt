@@ -17,7 +17,7 @@ use Rattle.memory_layout.specs.declared.MemoryLayout.the-variants.{Pages
 
 -- the limits of 22 and 20
 abbrev pub maxPages : ℕ
-maxPages = 512
+maxPages = 4096
 
 abbrev pub maxText : ℕ
 maxText = 1024
@@ -40,9 +40,9 @@ unfoldable pub split : List ℕ → List (List ℕ)
 split [] = [] ∷ []
 split (c ∷ cs) = pick (eqb c 44) ([] ∷ split cs) (push c (split cs))
 
--- what a unit multiplies by, `K`, `M` or a space; 0 for a byte that is none
+-- what a unit multiplies by, `K`, `M`, `B` or a space; 0 for a byte that is none
 abbrev pub factorOf : ℕ → ℕ
-factorOf c = pick (eqb c 75) 1024 (pick (eqb c 77) 1048576 (pick (eqb c 32) 1 0))
+factorOf c = pick (eqb c 75) 1024 (pick (eqb c 77) 1048576 (pick (eqb c 66) 1 (pick (eqb c 32) 1 0)))
 
 -- the unit at a place (12), and the size times it below 2^32 (21)
 unfoldable pub scaled : ℕ → ℕ → ℕ → ℕ → Piece

@@ -10,7 +10,7 @@ ghost use Rattle.memory_layout.specs.Layout.{endOf, factorOf, scaled, st
 use number::Number;
 
 // The most pages that a layout may have.
-pub const MAX_PAGES: usize = 512;
+pub const MAX_PAGES: usize = 4096;
 
 // The most bytes that a text may have.
 pub const MAX_TEXT: usize = 1024;
@@ -23,7 +23,7 @@ pub enum Error {
     ParseErrorPageCount { at: usize, len: usize },
     // 11
     ParseErrorPageSize { at: usize, len: usize },
-    // 12: a unit that is not `K`, `M` or a space
+    // 12: a unit that is not `K`, `M`, `B` or a space
     InvalidPrefix { at: usize, len: usize },
     // 20
     TextTooLong,
@@ -68,6 +68,8 @@ fn factor(unit: u8) -> u64
         1024
     } else if unit == b'M' {
         1048576
+    } else if unit == b'B' {
+        1
     } else if unit == b' ' {
         1
     } else {

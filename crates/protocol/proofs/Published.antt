@@ -99,26 +99,20 @@ unfolding rsplit
 cut-last [] t f = simp (slashless t f)
 cut-last (c ∷ s) t f = simp (cut-last s t f)
 
--- the units that are read, and what they multiply by
-abbrev pub Known : Multiplier → Type 0
-Known bytes = ⊥
-Known kilo = Unit
-Known mega = Unit
-
-factor : (u : Multiplier) → Known u → factorOf (letter u) ≡ times u
-factor bytes k = omega arith
-factor kilo k = omega arith
-factor mega k = omega arith
+-- what a unit multiplies by
+factor : (u : Multiplier) → factorOf (letter u) ≡ times u
+factor bytes = refl
+factor kilo = refl
+factor mega = refl
 
 unit-least : (u : Multiplier) → (48 ≤ letter u) × (1 ≤ times u)
 unit-least bytes = (omega arith, omega arith)
 unit-least kilo = (omega arith, omega arith)
 unit-least mega = (omega arith, omega arith)
 
--- a region that is read: as the paper prints it, its unit known, its pages' size below 2^32
+-- a region that is read: as the paper prints it, its pages' size below 2^32
 pub record Good (r : Region) : Type 0 where
   pub printable : Printable r
-  pub unit : Known (r .unit)
   pub small : r .size .value * times (r .unit) < 4294967296
 
 abbrev pub EachGood : Region → List Region → Type 0
@@ -143,7 +137,7 @@ module _ (r : Region) (good : Good r) where
       piece (decimal (r .count)) (decimal (r .size)) _ _ _ _ (times (r .unit)) at (digits-without 42 10 _ _ (omega arith))
       (digits-read 10 (omega arith) (omega arith) _ _ (count .0) (count .1) (omega arith))
       (digits-read 10 (omega arith) (omega arith) _ _ (size .0) (size .1) (omega (arith, mul-le-mul-left (r .size .value) least)))
-      (factor (r .unit) (good .unit)) least (good .small)
+      (factor (r .unit)) least (good .small)
 
 -- all regions: no slash, and they are read as all pages
 regions-without : (r : Region) (qs : List Region) → EachGood r qs → Without 47 (regions r qs)

@@ -27,11 +27,11 @@ fn layout(fault: Fault) {
             )
         }
         Fault::InvalidPrefix { at: _, len: _ } => {
-            refused(12, b"the unit is not K, M or a space")
+            refused(12, b"the unit is not K, M, B or a space")
         }
         Fault::TextTooLong => too_long(),
         Fault::PageTooLarge => refused(21, b"a page has 2^32 bytes or more"),
-        Fault::TooManyPages => refused(22, b"there are more than 512 pages"),
+        Fault::TooManyPages => refused(22, b"there are more than 4096 pages"),
     }
 }
 
@@ -61,7 +61,7 @@ pub fn string(error: protocol::Error) {
 pub fn start(error: StartError) {
     match error {
         StartError::OutOfCapabilities => refused(1, b"the firmware has 2^32 bytes or more"),
-        StartError::TooManyPages => refused(22, b"there are more than 512 pages"),
+        StartError::TooManyPages => refused(22, b"there are more than 4096 pages"),
         StartError::NoSpaceLeft => refused(5, b"the target would end at or past 2^32"),
         StartError::BudgetSpent => refused(23, b"the budget is spent"),
     }

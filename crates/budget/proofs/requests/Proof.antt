@@ -4,6 +4,7 @@ use denote.Ref.{now}
 use native.Mathlib.Omega.{arith}
 use borrow.Author.Needs.{needs}
 use lib.ListN.{length}
+use Rattle.memory_layout.specs.Layout.{maxPages}
 use Rattle.session.proofs.Covering.{bounded}
 use Rattle.plan.proofs.Blocks.{blockCount-bound}
 use Rattle.budget.proofs.requests.Statement.{statement}
@@ -18,13 +19,13 @@ cover-requires c κs = search needs
 add-result : tie.Need-add-result
 add-result c =
     let a = c .before .before .before .before .args in
-    let few : length (now (a .pages)) ≤ 512 = c .before .before .before .before .pre (c .before .if1 .taken) in
+    let few : length (now (a .pages)) ≤ maxPages = c .before .before .before .before .pre (c .before .if1 .taken) in
     omega (arith, c .cover .ensures, c .before .before .blocks-of .ensures, bounded (a .len) (now (a .pages)), blockCount-bound (a .len) (a .size))
 
 add-result-2 : tie.Need-add-result-2
 add-result-2 c =
     let a = c .before .before .before .before .args in
-    let few : length (now (a .pages)) ≤ 512 = c .before .before .before .before .pre (c .before .if1 .taken) in
+    let few : length (now (a .pages)) ≤ maxPages = c .before .before .before .before .pre (c .before .if1 .taken) in
     omega (arith, c .cover .ensures, c .before .before .blocks-of .ensures, bounded (a .len) (now (a .pages)), blockCount-bound (a .len) (a .size))
 
 returns : tie.Need-returns

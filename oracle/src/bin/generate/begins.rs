@@ -27,7 +27,7 @@ const LENGTHS: [u64; 14] = [
     u64::MAX,
 ];
 const BUDGETS: [u64; 3] = [0, 1, u64::MAX];
-const PAGE_COUNTS: [u32; 3] = [0, 1, 512];
+const PAGE_COUNTS: [u32; 4] = [0, 1, 512, 4_096];
 
 pub fn fixed() -> Box<dyn Iterator<Item = Case>> {
     let rows = KINDS.len()
@@ -76,6 +76,6 @@ pub fn random(rng: &mut Rng) -> Case {
         },
         length,
         budget: rng.sized(64),
-        page_count: rng.below(513) as u32,
+        page_count: rng.below(4_097) as u32,
     })
 }

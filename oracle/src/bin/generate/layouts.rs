@@ -7,7 +7,7 @@ use crate::rng::Rng;
 use crate::texts::{self, LETTERS, NUMBERS, PUBLISHED, TOO_LARGE};
 
 pub fn fixed() -> Box<dyn Iterator<Item = Case>> {
-    let enough = |text: Vec<u8>| layout(512, text);
+    let enough = |text: Vec<u8>| layout(4_096, text);
     let texts = texts::short(b"019*KM ,g+x", 5)
         .chain(single_pieces().map(String::into_bytes))
         .chain(tails())
@@ -87,7 +87,7 @@ fn long() -> impl Iterator<Item = String> {
 
 /// Layouts of so many pages, written in one piece or two, in a store that holds just these, fewer or many more.
 fn full_stores() -> impl Iterator<Item = Case> {
-    [0usize, 1, 2, 3, 255, 256, 511, 512, 513]
+    [0usize, 1, 2, 3, 255, 256, 511, 512, 513, 4_095, 4_096, 4_097]
         .into_iter()
         .flat_map(|pages| {
             let halves = (pages / 2, pages - pages / 2);

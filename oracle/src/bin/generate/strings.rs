@@ -10,7 +10,7 @@ const DFUSE: (u8, u8) = (1, 0x1a);
 const PLAIN: (u8, u8) = (1, 0x10);
 
 pub fn fixed() -> Box<dyn Iterator<Item = Case>> {
-    let dfuse = |text: Vec<u8>| string(DFUSE, 512, text);
+    let dfuse = |text: Vec<u8>| string(DFUSE, 4_096, text);
     let texts = short_addresses()
         .chain(edge_addresses())
         .chain(short_layouts())
@@ -75,7 +75,7 @@ fn unread() -> impl Iterator<Item = Case> {
         vec![0xff; 7],
         vec![b'a'; 1_025],
         b"/0x0/1*4096Mg".to_vec(),
-        b"/0x0/513*1Kg".to_vec(),
+        b"/0x0/4097*1Kg".to_vec(),
         "é/0x0/1*1é".as_bytes().to_vec(),
     ];
     texts.into_iter().flat_map(|text| {

@@ -25,7 +25,7 @@ pub const PUBLISHED: [&str; 14] = [
 pub const LETTERS: &[u8] = b"0123456789*KM ,g+x/-XBkmaefF@";
 
 /// Decimal numbers at their edges, well formed and not.
-pub const NUMBERS: [&str; 27] = [
+pub const NUMBERS: [&str; 28] = [
     "",
     "0",
     "1",
@@ -47,6 +47,7 @@ pub const NUMBERS: [&str; 27] = [
     "511",
     "512",
     "4095",
+    "4096",
     "4194303",
     "04194303",
     "4294967295",
@@ -114,7 +115,7 @@ pub fn store(rng: &mut Rng) -> usize {
         0 => 8_192,
         1 => rng.index(64),
         2 => rng.index(8_193),
-        _ => 512,
+        _ => 4_096,
     }
 }
 
