@@ -8,7 +8,6 @@ use lib.Dec.{eqb}
 use lib.ListN.{length, take, drop, getD, length-drop}
 use lib.Seq.{length-take-le, getD-drop}
 use borrow.Author.Tests.{eq-eqb, ne-eqb, lt-ltb, le-ltb}
-use Rattle.ground.specs.Pick.{pick}
 use Rattle.ground.proofs.Tests.{picked}
 use Rattle.memory_layout.specs.Number.{numberOf}
 use Rattle.memory_layout.specs.declared.number.Number.the-variants.{Value, Bad}

@@ -1,5 +1,5 @@
 -- Any work: a run that isn't refused was told no error; each reply but the first had 6 bytes or more and status 0. Assumes nothing.
-use Prim.Native.Nat.{ℕ, _≤_}
+use Prim.Native.Nat.{ℕ}
 use mathlib.Core.Path.{_≡_, refl}
 use mathlib.Core.Bool.{Bool, true, false}
 use mathlib.Core.List.{List, [], _∷_}
