@@ -71,6 +71,11 @@ impl Ask {
 }
 
 impl Data {
+    /// Whether it is a block with data, which has to be taken whole.
+    pub fn is_block(&self) -> bool {
+        matches!(self, Data::Firmware { length, .. } if *length > 0)
+    }
+
     /// The count that says all of it was taken.
     pub fn full_count(&self) -> u64 {
         match *self {

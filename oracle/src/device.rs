@@ -180,8 +180,9 @@ impl<'a, H: Host> Device<'a, H> {
         }
     }
 
-    /// Notes a write that was told its count: what is accepted, and which states the rules await now.
-    fn written(&self, data: Data, count: u64) {
+    /// Notes a write that was told its count: what is accepted, and which states the rules await now. A block was taken
+    /// whole: with another count it is outside the domain.
+    fn written(&self, data: Data) {
         let mut progress = self.progress.get();
         let after_empty_block = match self.descriptor.manifestation_tolerant {
             true => Awaited::After { busy: 7, target: 2 },
@@ -194,7 +195,7 @@ impl<'a, H: Host> Device<'a, H> {
         };
         if let Data::Firmware { length, .. } = data {
             progress.blocks_begun = true;
-            progress.accepted += count.min(length as u64) as usize;
+            progress.accepted += length;
         }
         self.progress.set(progress);
     }
@@ -248,7 +249,7 @@ impl<'a, H: Host> DfuIo for Device<'a, H> {
         let data = self.data(request, bytes);
         match self.ask(Ask::Write { request, data })? {
             Told::Count(count) => {
-                self.written(data, count);
+                self.written(data);
                 Ok(count as usize)
             }
             told => panic!("a count is awaited, not {told}"),

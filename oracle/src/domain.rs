@@ -1,10 +1,12 @@
 //! Where the comparison ends: inputs on which document 01 parts from the Rust on purpose. They are told apart before
 //! dfu-core is asked, which would store up to 2^32 pages for one piece of a layout.
 
+use crate::ask::Data;
 use crate::case::{Kind, Target};
 
 const LONGEST_TEXT: usize = 1_024;
 const MOST_PAGES: usize = 4_096;
+const MOST_BLOCKS: u64 = 65_533;
 const REPLY: usize = 6;
 
 /// A layout text that both sides read the same way.
@@ -23,10 +25,22 @@ pub fn interface(store: usize, text: &[u8]) -> Option<&str> {
     inside.then_some(text)
 }
 
-/// A device that both sides download to the same way.
-pub fn target(target: &Target, pages: usize) -> bool {
+/// A download that both sides start the same way.
+pub fn start(target: &Target, length: u64, pages: usize) -> bool {
     let size = target.size == 0 || usize::from(target.size) >= REPLY;
-    size && (target.kind == Kind::Plain || pages <= MOST_PAGES)
+    size && (target.kind == Kind::Plain || pages <= MOST_PAGES && is_numbered(target, length))
+}
+
+/// Whether DfuSe has a number for each block. Size 0 sends none, and a target that reaches 2^32 is refused before.
+fn is_numbered(target: &Target, length: u64) -> bool {
+    let address = target.override_address.unwrap_or(target.address);
+    let beyond = u64::from(address).saturating_add(length) > u64::from(u32::MAX);
+    target.size == 0 || beyond || length.div_ceil(target.size.into()) <= MOST_BLOCKS
+}
+
+/// A count that both sides go on with the same way: a block's is its length, any other isn't looked at.
+pub fn count(data: &Data, count: u64) -> bool {
+    !data.is_block() || count == data.full_count()
 }
 
 /// A reply that both sides read the same way, unless it is a session's first: it is too short, or its status is 0.

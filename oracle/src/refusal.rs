@@ -37,7 +37,6 @@ pub fn of(error: &Error) -> Refusal {
         Error::InvalidState { got, expected } => {
             Refusal::new(2, &[u8::from(got).into(), u8::from(expected).into()])
         }
-        Error::MaximumTransferSizeExceeded => Refusal::new(3, &[]),
         Error::EraseLimitReached => Refusal::new(4, &[]),
         Error::NoSpaceLeft => Refusal::new(5, &[]),
         Error::ResponseTooShort { got, expected } => Refusal::new(6, &[got, expected]),

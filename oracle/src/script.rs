@@ -16,7 +16,7 @@ const LEAST_COMMAND: usize = 5;
 
 /// The words of a start by its numbers alone.
 pub fn begin(case: &Begin) -> Result<String, Aside> {
-    if !domain::target(&case.target, case.page_count as usize) {
+    if !domain::start(&case.target, case.length, case.page_count as usize) {
         return Err(Aside::Outside);
     }
     let mut first = First(None);
@@ -40,7 +40,7 @@ impl Host for First {
 
 /// Writes the lines of a session, as far as dfu-core can be told its words.
 pub fn session(case: &Session, out: &mut String) -> Result<(), Aside> {
-    if !domain::target(&case.target, case.pages.len()) {
+    if !domain::start(&case.target, case.length as u64, case.pages.len()) {
         return Err(Aside::Outside);
     }
     let mut script = Script::new(case, out);
@@ -92,7 +92,7 @@ impl Host for Script<'_> {
         }
         let told = self.next_call(ask)?;
         let awaited = ask.awaits(&told, self.case.target.size);
-        self.outside = !(self.lends_enough() && awaited && self.is_believed(&told));
+        self.outside = !(self.lends_enough() && awaited && self.goes_on(ask, &told));
         (!self.outside).then_some(told)
     }
 }
@@ -171,10 +171,12 @@ impl<'a> Script<'a> {
         pages && self.lent.firmware == self.case.length && self.lent.command >= LEAST_COMMAND
     }
 
-    /// Whether the rules go on with a reply's status: the first reply of a session may have any, a later one 0.
-    fn is_believed(&self, told: &Told) -> bool {
-        match told {
-            Told::Reply(bytes) => self.spent == 1 || domain::reply(bytes),
+    /// Whether the rules go on with a reply's status, where the first reply of a session may have any and a later one 0,
+    /// and with the count of a block.
+    fn goes_on(&self, ask: &Ask, told: &Told) -> bool {
+        match (ask, told) {
+            (_, Told::Reply(bytes)) => self.spent == 1 || domain::reply(bytes),
+            (Ask::Write { data, .. }, Told::Count(count)) => domain::count(data, *count),
             _ => true,
         }
     }

@@ -1,32 +1,19 @@
 // A device and a host that answer at once: what programs tell a session that runs by itself.
 ghost use mathlib.Core.Path.{_≡_};
 ghost use Rattle.session.specs.Download.{out, callOf};
-ghost use Rattle.plan.specs.Answers.{wholeOf};
 ghost use Rattle.plan.specs.Answers.{showing, ideal};
 use get_status::State;
-use session::Command;
 use session::Phase;
 use session::Session;
 use session::Step;
 use session::Wait;
+use session::synchronous::whole;
 
 // The device shows a state.
 fn shown(session: Session, state: State, firmware: &[u8], pages: &[u32], command: &mut [u8]) -> Step
     ensures { λ r. ⌜ out r (now (command .exit)) ≡ callOf (now (firmware .entry)) (now (pages .entry)) (now (command .entry)) session (showing state) ⌝ }
 {
     session.told_reply(&[0, 0, 0, 0, state.byte(), 0], firmware, pages, command)
-}
-
-// A full count: only a block's is asked for.
-fn whole(sent: Command) -> u64
-    ensures { λ r. ⌜ r ≡ wholeOf sent ⌝ }
-{
-    match sent {
-        Command::Erase(_) => 0,
-        Command::SetAddress(_) => 0,
-        Command::Block { len, .. } => len as u64,
-        Command::Empty { .. } => 0,
-    }
 }
 
 // Tells a session what it awaits; an ended one repeats what it said.
@@ -38,7 +25,7 @@ pub fn told(session: Session, firmware: &[u8], pages: &[u32], command: &mut [u8]
         Phase::First => shown(session, State::DfuIdle, firmware, pages, command),
         Phase::Clear => session.told_count(0, firmware, pages, command),
         Phase::Second => shown(session, State::DfuIdle, firmware, pages, command),
-        Phase::Sent(sent) => session.told_count(whole(sent), firmware, pages, command),
+        Phase::Sent(sent) => session.told_count(whole(sent) as u64, firmware, pages, command),
         Phase::Waiting(wait) => match wait {
             Wait::Pause { .. } => session.told_wait(firmware, pages, command),
             Wait::Poll { target, .. } => shown(session, target, firmware, pages, command),

@@ -6,7 +6,7 @@ use lib.Dec.{ltb}
 use Rattle.ground.specs.Pick.{pick}
 use Rattle.protocol.specs.declared.DfuProtocol.{DfuProtocol}
 use Rattle.session.specs.declared.start.DfuSansIo.{DfuSansIo}
-use Rattle.session.specs.Start.{dfuseb, overb}
+use Rattle.session.specs.Start.{dfuseb, overb, manyb}
 use Rattle.plan.specs.Plan.{commands}
 use Rattle.budget.specs.declared.Suffices.{Suffices}
 use Rattle.budget.specs.declared.Suffices.the-variants.{Budget, Never}
@@ -19,8 +19,9 @@ enoughFor requests k = 3 + requests * (k + 2)
 abbrev pub counted : ℕ → Suffices
 counted n = pick (ltb n (2 ^ 64)) (Budget n) Never
 
--- none where start refuses the lengths: too long (1), too many pages (22)
+-- none where start refuses the lengths: too long (1), too many pages (22), too many blocks (29)
 unfoldable pub enoughOf : DfuSansIo → DfuProtocol → ℕ → List ℕ → ℕ → Suffices
 enoughOf io p len pages k =
     pick (ltb 4294967295 len) Never
-    (pick (overb (dfuseb p) (length pages)) Never (counted (enoughFor (commands (dfuseb p) len (io .descriptor .«transfer_size») pages) k)))
+    (pick (overb (dfuseb p) (length pages)) Never
+    (pick (manyb (dfuseb p) len (io .descriptor .«transfer_size»)) Never (counted (enoughFor (commands (dfuseb p) len (io .descriptor .«transfer_size») pages) k))))

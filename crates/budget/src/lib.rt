@@ -5,27 +5,19 @@ ghost use Prim.Native.Nat.{_<_, _≤_};
 ghost use lib.ListN.{length};
 ghost use Rattle.session.specs.Start.{dfuseb, overb};
 ghost use Rattle.memory_layout.specs.Layout.{maxPages};
-ghost use Rattle.plan.specs.Plan.{blockCount, commands};
+ghost use Rattle.plan.specs.Plan.{commands};
 ghost use Rattle.budget.specs.Enough.{enoughFor, counted, enoughOf};
 use memory_layout::MAX_PAGES;
 use protocol::DfuProtocol;
+use session::download::blocks;
 use session::download::cover;
 use session::start::DfuSansIo;
+use session::start::is_many;
 
-// A budget, or none: start refuses the lengths (1, 22), or the number is no 64-bit count.
+// A budget, or none: start refuses the lengths (1, 22, 29), or the number is no 64-bit count.
 pub enum Suffices {
     Budget(u64),
     Never,
-}
-
-// The blocks of at most `size` bytes that a firmware fills; none of size 0.
-fn blocks_of(len: u32, size: u16) -> u64
-    ensures { λ r. ⌜ r ≡ blockCount len size ⌝ }
-{
-    if size == 0 {
-        return 0;
-    }
-    ((len as u64) + ((size as u64) - 1)) / (size as u64)
 }
 
 // The download requests of an update: for DfuSe an erase for each covering page and the address before the blocks, and the empty block after them.
@@ -33,7 +25,7 @@ fn requests(dfuse: bool, len: u32, size: u16, pages: &[u32]) -> u64
     requires { ⌜ (dfuse ≡ true → length (now pages) ≤ maxPages) ⌝ }
     ensures { λ r. ⌜ r ≡ commands dfuse len size (now (pages .entry)) ⌝ }
 {
-    let sent = blocks_of(len, size);
+    let sent = blocks(len, size);
     if dfuse {
         return (cover(pages, len) as u64) + sent + 2;
     }
@@ -92,7 +84,11 @@ pub fn enough_for(
         return Suffices::Never;
     }
     let descriptor = io.descriptor;
-    let sent = requests(dfuse, length as u32, descriptor.transfer_size, pages);
+    let size = descriptor.transfer_size;
+    if is_many(dfuse, length as u32, size) {
+        return Suffices::Never;
+    }
+    let sent = requests(dfuse, length as u32, size, pages);
     budget_for(sent, busy)
 }
 

@@ -5,9 +5,9 @@ use mathlib.Core.Path.{_≡_, refl, ap, _∙_}
 use mathlib.Core.Bool.{Bool, true, false}
 use mathlib.Core.List.{List, [], _∷_, _++_}
 use lib.ListN.{length, length-append}
-use Rattle.session.specs.Download.{covering}
+use Rattle.session.specs.Download.{covering, blockCount}
 use Rattle.plan.specs.Dfuse.{setAddressCommand}
-use Rattle.plan.specs.Plan.{Dnload, dnload, erasing, several, blockCount, numberOf, blockOf, sending, plan, commands}
+use Rattle.plan.specs.Plan.{Dnload, dnload, erasing, several, numberOf, blockOf, sending, plan, commands}
 
 pub length-several {ℓ} : {A : Type ℓ} (f : ℕ → A) (i n : ℕ) → length (several f i n) ≡ n
 unfolding several

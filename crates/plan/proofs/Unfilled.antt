@@ -5,7 +5,7 @@ use mathlib.Core.Bool.{false, true≢false}
 use mathlib.Core.List.{List}
 use lib.ListN.{length}
 use Rattle.ground.proofs.Tests.{picked}
-use Rattle.session.specs.Machine.{Answer, count, reply, waited, wasReset, failed, Work, issue, waitAfter, asksAt, toldAt, told}
+use Rattle.session.specs.Machine.{Answer, count, reply, waited, wasReset, failed, Work, issue, waitAfter, takenb, onCount, asksAt, toldAt, told}
 use Rattle.session.specs.Download.{download, liveb, asAtStart, guardOf, through, called, filledBy, filled, out, callOf}
 use Rattle.session.specs.declared.Command.{Command}
 use Rattle.session.specs.declared.Command.the-variants.{Erase, SetAddress, Block, Empty}
@@ -43,6 +43,10 @@ wait-unfilled su (SetAddress a) cmd = refl
 wait-unfilled su (Block n f m) cmd = refl
 wait-unfilled su (Empty n) cmd = refl
 
+count-unfilled : (su : Setup) (pr then : Progress) (l : ℕ) (c : Command) (n : ℕ) (cmd : List ℕ) → filledBy (asksAt ((onCount su pr l c then n) .phase)) cmd ≡ cmd
+count-unfilled su pr then l c n cmd =
+    picked (λ (s : Session). filledBy (asksAt (s .phase)) cmd ≡ cmd) (takenb c n) _ _ (λ e. wait-unfilled su c cmd) (λ e. refl)
+
 unfilledAt : (w : Work) (su : Setup) (pr : Progress) (l : ℕ) (p : Phase) (a : Answer) (cmd : List ℕ) → Unreplied a
     → filledBy ((toldAt w su pr l p a) .says) cmd ≡ cmd
 unfilledAt w su pr l First (count n) cmd v = refl
@@ -60,7 +64,7 @@ unfilledAt w su pr l Second (reply bs) cmd v = absurd v
 unfilledAt w su pr l Second waited cmd v = refl
 unfilledAt w su pr l Second wasReset cmd v = refl
 unfilledAt w su pr l Second failed cmd v = refl
-unfilledAt w su pr l (Sent c) (count n) cmd v = wait-unfilled su c cmd
+unfilledAt w su pr l (Sent c) (count n) cmd v = count-unfilled su pr (w .took su pr c) l c n cmd
 unfilledAt w su pr l (Sent c) (reply bs) cmd v = absurd v
 unfilledAt w su pr l (Sent c) waited cmd v = refl
 unfilledAt w su pr l (Sent c) wasReset cmd v = refl

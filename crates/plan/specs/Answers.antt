@@ -1,22 +1,12 @@
--- Answers: what a full count is, which aren't replies, and what a device and a host tell that answer at once.
-use Prim.Native.Nat.{ℕ}
+-- Answers: which aren't replies, and what a device and a host tell that answer at once.
 use mathlib.Core.List.{[], _∷_}
 use Rattle.get_status.specs.Names.{stateByte}
 use Rattle.get_status.specs.declared.State.{State}
 use Rattle.get_status.specs.declared.State.the-variants.{DfuIdle}
-use Rattle.session.specs.Machine.{Answer, count, reply, waited, wasReset, failed}
+use Rattle.session.specs.Machine.{Answer, count, reply, waited, wasReset, failed, wholeOf}
 use Rattle.session.specs.declared.Wait.the-variants.{Pause, Poll}
 use Rattle.session.specs.declared.Phase.{Phase}
 use Rattle.session.specs.declared.Phase.the-variants.{First, Clear, Second, Sent, Waiting, Resetting, Finished, Refused}
-use Rattle.session.specs.declared.Command.{Command}
-use Rattle.session.specs.declared.Command.the-variants.{Erase, SetAddress, Block, Empty}
-
--- the count of a full write: a block's length
-abbrev pub wholeOf : Command → ℕ
-wholeOf (Erase a) = 0
-wholeOf (SetAddress a) = 0
-wholeOf (Block n f m) = m
-wholeOf (Empty n) = 0
 
 -- an answer that isn't a reply
 abbrev pub Unreplied : Answer → Type 0

@@ -1,10 +1,10 @@
 -- The download requests of an update as DFU 1.1 and ST's DfuSe lay them out: what goes over the wire, in order, said without a session.
-use Prim.Native.Nat.{ℕ, zero, suc, _+_, _-_, _*_, _/_, _%_}
+use Prim.Native.Nat.{ℕ, zero, suc, _+_, _*_, _%_}
 use mathlib.Core.Bool.{Bool}
 use mathlib.Core.List.{List, [], _∷_, _++_}
 use lib.ListN.{length, take, drop}
 use Rattle.ground.specs.Pick.{pick}
-use Rattle.session.specs.Download.{covering}
+use Rattle.session.specs.Download.{covering, blockCount}
 use Rattle.plan.specs.Dfu11.{SetupPacket, DFU_DNLOAD}
 use Rattle.plan.specs.Dfuse.{eraseCommand, setAddressCommand}
 
@@ -25,10 +25,6 @@ erasing at (p ∷ ps) = dnload 0 (eraseCommand at) ∷ erasing (at + p) ps
 unfoldable pub sum : List ℕ → ℕ
 sum [] = 0
 sum (p ∷ ps) = p + sum ps
-
--- how many blocks of at most s bytes n bytes fill
-unfoldable pub blockCount : ℕ → ℕ → ℕ
-blockCount n s = (n + (s - 1)) / s
 
 -- f at from, from + 1, .., n of them
 unfoldable pub several {ℓ} : {A : Type ℓ} → (ℕ → A) → ℕ → ℕ → List A

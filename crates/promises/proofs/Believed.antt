@@ -1,4 +1,4 @@
--- Any work: a run that isn't refused was told no error; each reply but the first had 6 bytes or more and status 0. Assumes nothing.
+-- Any work: a run that isn't refused was told no error, each reply but the first had 6 bytes or more and status 0; and each block was taken whole. Assumes nothing.
 use Prim.Native.Nat.{ℕ}
 use mathlib.Core.Path.{_≡_, refl}
 use mathlib.Core.Bool.{Bool, true, false}
@@ -11,15 +11,18 @@ use Rattle.get_status.specs.Names.{statusByte}
 use Rattle.get_status.specs.Reply.{messageOf, strict}
 use Rattle.get_status.specs.declared.GetStatusMessage.{GetStatusMessage}
 use Rattle.get_status.specs.declared.Reply.the-variants.{ResponseTooShort as ShortReply, StatusError as BadStatus, Read}
-use Rattle.session.specs.Machine.{Answer, count, reply, waited, wasReset, failed, Work, laterReply, reading, toldAt, told}
+use Rattle.session.specs.Machine.{Answer, count, reply, waited, wasReset, failed, Work, mk, refuse, waitAfter, wholeOf, takenb, onCount, laterReply, reading, toldAt, told}
+use Rattle.session.specs.declared.Command.{Command}
 use Rattle.session.specs.declared.Wait.the-variants.{Pause, Poll}
+use Rattle.session.specs.declared.Error.the-variants.{WrongCount}
 use Rattle.session.specs.declared.Phase.{Phase}
 use Rattle.session.specs.declared.Phase.the-variants.{First, Clear, Second, Sent, Waiting, Resetting, Finished, Refused}
 use Rattle.session.specs.declared.Progress.{Progress}
 use Rattle.session.specs.declared.Setup.{Setup}
 use Rattle.session.specs.declared.Session.{Session}
-use Rattle.promises.specs.Run.{World, tell, after, afterBy, Unrefused, Over}
-use Rattle.promises.specs.Believed.{Sound, SoundAt, AllSound}
+use Rattle.promises.specs.Run.{World, tell, after, afterBy, Unrefused, Over, Taken}
+use Rattle.promises.specs.Believed.{Sound, SoundAt, WholeAt, AllAtBy, AllSound, AllWhole}
+use Rattle.promises.proofs.Counted.{true-taken}
 
 -- a later reply after which the session isn't refused
 read-sound : (su : Setup) (pr : Progress) (l : ℕ) (bs : List ℕ) (f : GetStatusMessage → Session) → Unrefused ((reading su pr l (laterReply bs) f) .phase) → Sound (reply bs)
@@ -55,6 +58,28 @@ step-sound w su pr l Resetting a u = tt
 step-sound w su pr l (Finished e) a u = tt
 step-sound w su pr l (Refused e) a u = tt
 
+-- a count after which the session isn't refused
+count-whole : (su : Setup) (pr then : Progress) (l : ℕ) (c : Command) (n : ℕ) → Unrefused ((onCount su pr l c then n) .phase) → Taken c n
+count-whole su pr then l c n u = by (takenb c n) refl u
+  where
+    by : (b : Bool) → takenb c n ≡ b → Unrefused ((pick b (mk su then l (Waiting (waitAfter su c))) (refuse su pr l (WrongCount n (wholeOf c)))) .phase) → Taken c n
+    by true e v = true-taken c n e
+    by false e v = absurd v
+
+step-whole : (w : Work) (su : Setup) (pr : Progress) (l : ℕ) (p : Phase) (a : Answer) → Unrefused ((toldAt w su pr l p a) .next .phase) → WholeAt p a
+step-whole w su pr l First a u = tt
+step-whole w su pr l Clear a u = tt
+step-whole w su pr l Second a u = tt
+step-whole w su pr l (Sent c) (count n) u = count-whole su pr (w .took su pr c) l c n u
+step-whole w su pr l (Sent c) (reply bs) u = tt
+step-whole w su pr l (Sent c) waited u = tt
+step-whole w su pr l (Sent c) wasReset u = tt
+step-whole w su pr l (Sent c) failed u = tt
+step-whole w su pr l (Waiting x) a u = tt
+step-whole w su pr l Resetting a u = tt
+step-whole w su pr l (Finished e) a u = tt
+step-whole w su pr l (Refused e) a u = tt
+
 -- a session that isn't refused never was
 step-back : (w : Work) (su : Setup) (pr : Progress) (l : ℕ) (p : Phase) (a : Answer) → Unrefused ((toldAt w su pr l p a) .next .phase) → Unrefused p
 step-back w su pr l First a u = tt
@@ -73,15 +98,23 @@ run-back w x (a ∷ more) u =
     let s : Session = x .session in
     step-back w (s .setup) (s .progress) (s .left) (s .phase) a (run-back w (tell w x a) more u)
 
+-- what a told answer must have been for the session not to be refused by it, each answer of a run that isn't refused was
+unrefused-all : (P : Phase → Answer → Type 0) (w : Work)
+    → ((su : Setup) (pr : Progress) (l : ℕ) (p : Phase) (a : Answer) → Unrefused ((toldAt w su pr l p a) .next .phase) → P p a)
+    → (x : World) (more : List Answer) → Unrefused ((after w x more) .session .phase) → AllAtBy P (told w) (x .session) more
+unfolding afterBy told AllAtBy
+unrefused-all P w f x [] u = tt
+unrefused-all P w f x (a ∷ more) u =
+    let s : Session = x .session in
+    (f (s .setup) (s .progress) (s .left) (s .phase) a (run-back w (tell w x a) more u), unrefused-all P w f (tell w x a) more u)
+
 -- NO ERROR WAS TOLD
 pub unrefused-sound : (w : Work) (x : World) (more : List Answer) → Unrefused ((after w x more) .session .phase) → AllSound w (x .session) more
-unfolding afterBy told AllSound
-unrefused-sound w x [] u = tt
-unrefused-sound w x (a ∷ more) u =
-    let s : Session = x .session in (
-      step-sound w (s .setup) (s .progress) (s .left) (s .phase) a (run-back w (tell w x a) more u),
-      unrefused-sound w (tell w x a) more u,
-    )
+unrefused-sound w x more u = unrefused-all SoundAt w (step-sound w) x more u
+
+-- EVERY BLOCK WAS TAKEN WHOLE
+pub unrefused-whole : (w : Work) (x : World) (more : List Answer) → Unrefused ((after w x more) .session .phase) → AllWhole w (x .session) more
+unrefused-whole w x more u = unrefused-all WholeAt w (step-whole w) x more u
 
 pub over-unrefused : (p : Phase) → Over p → Unrefused p
 over-unrefused First o = tt

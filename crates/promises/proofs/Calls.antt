@@ -6,7 +6,7 @@ use mathlib.Core.List.{List, [], _∷_, _++_}
 use lib.ListN.{length}
 use Rattle.ground.specs.Pick.{pick}
 use Rattle.ground.proofs.Tests.{picked}
-use Rattle.session.specs.Machine.{asksAt, told}
+use Rattle.session.specs.Machine.{Answer, asksAt, told}
 use Rattle.session.specs.Download.{download, liveb, asAtStart, guardOf, through, called, Outcome, out, filled, callOf}
 use Rattle.session.specs.declared.Error.the-variants.{NotAsAtStart}
 use Rattle.session.specs.declared.Guard.{Guard}
@@ -47,15 +47,17 @@ call-picked P x c t v =
               ++ (heardThrough g (x .session .phase) (c .answer) ++ x .past);
         })
 
--- THE SPEND: what is left, and the transfers since, make up what was there, whatever is lent and told
-call-adds : (n : ℕ) (x : World) (c : Call) → x .session .left + length (transfers (x .past)) ≡ n → (call x c) .session .left + length (transfers ((call x c) .past)) ≡ n
-call-adds n x c v = call-picked (λ (y : World). y .session .left + length (transfers (y .past)) ≡ n) x c (tell-adds (download (c .pages)) x (c .answer) n v) v
+-- what each told answer keeps, whatever pages are lent, every list of calls keeps
+pub calls-keep : (P : World → Type 0) → ((ps : List ℕ) (x : World) (a : Answer) → P x → P (tell (download ps) x a)) → (x : World) (more : List Call) → P x → P (calls x more)
+unfolding calls
+calls-keep P f x [] v = v
+calls-keep P f x (c ∷ more) v = calls-keep P f (call x c) more (call-picked P x c (f (c .pages) x (c .answer) v) v)
 
+-- THE SPEND: what is left, and the transfers since, make up what was there, whatever is lent and told
 pub spend : (x : World) (more : List Call) (n : ℕ) → x .session .left + length (transfers (x .past)) ≡ n
     → (calls x more) .session .left + length (transfers ((calls x more) .past)) ≡ n
-unfolding calls
-spend x [] n v = v
-spend x (c ∷ more) n v = spend (call x c) more n (call-adds n x c v)
+spend x more n v =
+    calls-keep (λ (y : World). y .session .left + length (transfers (y .past)) ≡ n) (λ ps y a u. tell-adds (download ps) y a n u) x more v
 
 -- ENDED IS ENDED: every further call gives the same answer, the same session and the lent command bytes as they were
 pub ended-answers : (s : Session) (c : Call) → liveb (s .phase) ≡ false → outcome s c ≡ out (record { next = s; says = asksAt (s .phase) }) (c .command)

@@ -22,7 +22,6 @@ use Rattle.session.specs.declared.start.DfuSansIo.{DfuSansIo}
 use Rattle.promises.specs.Run.{Event, opened, after, cleared}
 use Rattle.plan.specs.Sent.{Begins}
 use Rattle.promises.proofs.Walk.{Claims, Holds, Wished, WaitingAt, Good, run-always, either-end}
-use Rattle.promises.proofs.Spends.{Any, all-fit}
 use Rattle.promises.proofs.Started.{started}
 
 abbrev once : Claims
@@ -40,19 +39,19 @@ once = record {
 }
 
 module _ (w : Work) (su : Setup) where
-  waits : (c : Command) (pr : Progress) (l : ℕ) (h : List Event) → cleared h ≤ 1 → WaitingAt w su Any once (waitAfter su c) pr l h
+  waits : (c : Command) (pr : Progress) (l : ℕ) (h : List Event) → cleared h ≤ 1 → WaitingAt w su once (waitAfter su c) pr l h
   waits (Erase a) pr l h v = v
   waits (SetAddress a) pr l h v = v
   waits (Block n f m) pr l h v = v
   waits (Empty n) pr l h v = v
 
-  wished : (l : ℕ) (h : List Event) (t : Todo) → cleared h ≤ 1 → Wished w su Any once l h t
+  wished : (l : ℕ) (h : List Event) (t : Todo) → cleared h ≤ 1 → Wished w su once l h t
   unfolding cleared
-  wished l h (Send c then) v = λ m e. (v, λ n u. waits c (w .took su then c n) m _ v)
-  wished l h Ends v = either-end w su Any once l h v v
+  wished l h (Send c then) v = λ m e. (v, waits c (w .took su then c) m _ v)
+  wished l h Ends v = either-end w su once l h v v
   wished l h (Refuse e) v = v
 
-  holds : Holds w su Any once
+  holds : Holds w su once
   unfolding cleared
   holds = record {
     first = λ pr l h st v. picked (λ (X : Type 0). X) (eqb st 10) _ _ (λ e. omega (arith, v)) (λ e. omega (arith, v));
@@ -82,12 +81,12 @@ pub clears-once : (io : DfuSansIo) (p : DfuProtocol) (fw ps : List ℕ) (budget 
 unfolding cleared
 clears-once io p fw ps budget s more b =
     let (l, e) = started io p fw ps budget s b in
-    let g : Good (download ps) su Any once (opened s) =
+    let g : Good (download ps) su once (opened s) =
     ⊎-elim
-    (λ q. subst (λ (x : Session). Good (download ps) su Any once (opened x)) (sym q) (record { setup = refl; holds = refl }))
-    (λ q. subst (λ (x : Session). Good (download ps) su Any once (opened x)) (sym q) (record { setup = refl; holds = omega arith }))
+    (λ q. subst (λ (x : Session). Good (download ps) su once (opened x)) (sym q) (record { setup = refl; holds = refl }))
+    (λ q. subst (λ (x : Session). Good (download ps) su once (opened x)) (sym q) (record { setup = refl; holds = omega arith }))
     e in
-    run-always (download ps) su Any once (holds (download ps) su) (opened s) more (all-fit (download ps) s more) g
+    run-always (download ps) su once (holds (download ps) su) (opened s) more g
   where
     su : Setup
     su = setupOf io p (length fw) (length ps)

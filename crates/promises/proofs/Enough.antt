@@ -9,7 +9,7 @@ use Rattle.ground.proofs.Tests.{picked}
 use Rattle.protocol.specs.declared.DfuProtocol.{DfuProtocol}
 use Rattle.session.specs.Machine.{Answer, mk}
 use Rattle.session.specs.Download.{download}
-use Rattle.session.specs.Start.{dfuseb, overb, setupOf, fresh}
+use Rattle.session.specs.Start.{dfuseb, overb, manyb, setupOf, fresh}
 use Rattle.session.specs.declared.Phase.the-variants.{First}
 use Rattle.session.specs.declared.Session.{Session}
 use Rattle.session.specs.declared.start.DfuSansIo.{DfuSansIo}
@@ -34,7 +34,8 @@ unfolding enoughOf
 answered io p fw ps k n =
     picked P (ltb 4294967295 (length fw)) _ _ (λ e z. absurd (never-budget z))
     (λ e. picked P (overb (dfuseb p) (length ps)) _ _ (λ f z. absurd (never-budget z))
-    (λ f. picked P (ltb (enoughFor (requestsOf io p fw ps) k) (2 ^ 64)) _ _ (λ g z. budget-is z) (λ g z. absurd (never-budget z))))
+    (λ f. picked P (manyb (dfuseb p) (length fw) (io .descriptor .«transfer_size»)) _ _ (λ h z. absurd (never-budget z))
+    (λ h. picked P (ltb (enoughFor (requestsOf io p fw ps) k) (2 ^ 64)) _ _ (λ g z. budget-is z) (λ g z. absurd (never-budget z)))))
   where
     P : Suffices → Type 0
     P x = x ≡ Budget n → enoughFor (requestsOf io p fw ps) k ≡ n

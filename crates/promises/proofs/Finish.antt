@@ -11,7 +11,7 @@ use Rattle.ground.proofs.Tests.{picked}
 use Rattle.protocol.specs.declared.DfuProtocol.{DfuProtocol}
 use Rattle.session.specs.Machine.{Answer, Work, mk}
 use Rattle.session.specs.Download.{download, limit, endOf}
-use Rattle.session.specs.Start.{dfuseb, setupOf, fresh, nothingb, beyondb, overb, begunOf, beginOf}
+use Rattle.session.specs.Start.{dfuseb, setupOf, fresh, nothingb, beyondb, overb, manyb, begunOf, beginOf}
 use Rattle.session.specs.declared.Phase.the-variants.{First}
 use Rattle.session.specs.declared.Setup.{Setup}
 use Rattle.session.specs.declared.Session.{Session}
@@ -46,7 +46,9 @@ module _ (io : DfuSansIo) (p : DfuProtocol) (fw ps : List ℕ) where
       rw z y in
       let e₄ : beyondb su ≡ false =
       picked (λ (b : Bool). b ≡ false) (dfuseb p) _ _ (λ d. lt-leb limit (endOf su) (omega (arith, r .covered d, r .below d))) (λ d. refl) in
-      rw (e₁, e₂, e₃, e₄)
+      let e₅ : manyb (dfuseb p) (length fw) (io .descriptor .«transfer_size») ≡ false =
+      picked (λ (b : Bool). b ≡ false) (dfuseb p) _ _ (λ d. le-ltb _ _ (r .numbered d)) (λ d. refl) in
+      rw (e₁, e₂, e₃, e₄, e₅)
 
   -- the requests that are wanted at the start are as many as the plan's
   count : 0 < su .size → length (left ps su (fresh su)) ≡ requestsOf io p fw ps

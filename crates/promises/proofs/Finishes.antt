@@ -20,11 +20,10 @@ use Rattle.session.specs.declared.Todo.{Todo}
 use Rattle.session.specs.declared.Todo.the-variants.{Send, End as Ends, Refuse}
 use Rattle.session.specs.declared.start.DfuSansIo.{DfuSansIo}
 use Rattle.plan.specs.Plan.{Dnload}
-use Rattle.plan.specs.Answers.{wholeOf}
-use Rattle.promises.specs.Run.{Event, sends, opened, after, commanded, Over, Fits, Full}
+use Rattle.promises.specs.Run.{Event, sends, opened, after, commanded, Over}
 use Rattle.plan.specs.Sent.{onWire, planOf, Begins}
 use Rattle.promises.proofs.Walk.{Claims, Holds, Wished, WaitingAt, Good, run-always, run-over, either-end}
-use Rattle.promises.proofs.Wanted.{left, Heads, heads, full, wanted, fresh-wanted}
+use Rattle.promises.proofs.Wanted.{left, Heads, heads, wanted, fresh-wanted}
 use Rattle.promises.proofs.Onwire.{wanted-plan}
 use Rattle.promises.proofs.Started.{begun}
 
@@ -50,29 +49,28 @@ planned ps su all = record {
 }
 
 module _ (ps : List ℕ) (su : Setup) (all : List Command) where
-  wait-so : (c : Command) (pr : Progress) (l : ℕ) (h : List Event) → So all h (left ps su pr) → WaitingAt (download ps) su Full (planned ps su all) (waitAfter su c) pr l h
+  wait-so : (c : Command) (pr : Progress) (l : ℕ) (h : List Event) → So all h (left ps su pr) → WaitingAt (download ps) su (planned ps su all) (waitAfter su c) pr l h
   wait-so (Erase a) pr l h v = v
   wait-so (SetAddress a) pr l h v = v
   wait-so (Block n f m) pr l h v = v
   wait-so (Empty n) pr l h v = v
 
   wished : (pr : Progress) (l : ℕ) (h : List Event) (t : Todo) → Heads (download ps) (left ps su) su (left ps su pr) t → So all h (left ps su pr)
-      → Wished (download ps) su Full (planned ps su all) l h t
+      → Wished (download ps) su (planned ps su all) l h t
   unfolding commanded
   wished pr l h (Send c then) e v =
-      let on : So all (sends (Commands c) ∷ h) (left ps su (tookOf su then c (wholeOf c))) =
-      append-assoc (commanded h) (c ∷ []) (left ps su (tookOf su then c (wholeOf c))) ∙ ap (λ (x : List Command). commanded h ++ x) e ∙ v in
+      let on : So all (sends (Commands c) ∷ h) (left ps su (tookOf su then c)) =
+      append-assoc (commanded h) (c ∷ []) (left ps su (tookOf su then c)) ∙ ap (λ (x : List Command). commanded h ++ x) e ∙ v in
       λ m z. (
-        (left ps su (tookOf su then c (wholeOf c)), on),
-        λ n u. wait-so c (tookOf su then c n) m (sends (Commands c) ∷ h)
-            (subst (λ (x : Progress). So all (sends (Commands c) ∷ h) (left ps su x)) (sym (full su then c n u)) on),
+        (left ps su (tookOf su then c), on),
+        wait-so c (tookOf su then c) m (sends (Commands c) ∷ h) on,
       )
   wished pr l h Ends e v =
       let all-done : So all h [] = ap (λ (x : List Command). commanded h ++ x) e ∙ v in
-      either-end (download ps) su Full (planned ps su all) l h all-done all-done
+      either-end (download ps) su (planned ps su all) l h all-done all-done
   wished pr l h (Refuse x) e v = (left ps su pr, v)
 
-  holds : 0 < su .size → Holds (download ps) su Full (planned ps su all)
+  holds : 0 < su .size → Holds (download ps) su (planned ps su all)
   unfolding commanded
   holds k = record {
     first = λ pr l h st v. picked (λ (X : Type 0). X) (eqb st 10) _ _ (λ e. v) (λ e. v);
@@ -97,23 +95,22 @@ module _ (ps : List ℕ) (su : Setup) (all : List Command) where
   }
 
 -- a session at its first request, with all of it still to come
-fresh-good : (ps : List ℕ) (su : Setup) (l : ℕ) → 0 < su .size → Good (download ps) su Full (planned ps su (wanted su ps)) (opened (mk su (fresh su) l First))
+fresh-good : (ps : List ℕ) (su : Setup) (l : ℕ) → 0 < su .size → Good (download ps) su (planned ps su (wanted su ps)) (opened (mk su (fresh su) l First))
 unfolding commanded
 fresh-good ps su l k = record { setup = refl; holds = fresh-wanted ps su k }
 
 -- the same of a session at its first request, by meaning
-module _ (ps : List ℕ) (su : Setup) (l : ℕ) (more : List Answer) (k : 0 < su .size)
-    (u : Fits Full (download ps) (mk su (fresh su) l First) more) where
+module _ (ps : List ℕ) (su : Setup) (l : ℕ) (more : List Answer) (k : 0 < su .size) where
   ran-whole : Over ((after (download ps) (opened (mk su (fresh su) l First)) more) .session .phase)
       → commanded ((after (download ps) (opened (mk su (fresh su) l First)) more) .past) ≡ wanted su ps
   ran-whole o =
       sym (append-nil _)
-      ∙ (run-over (download ps) su Full (planned ps su (wanted su ps)) (holds ps su (wanted su ps) k) (opened (mk su (fresh su) l First)) more u
+      ∙ (run-over (download ps) su (planned ps su (wanted su ps)) (holds ps su (wanted su ps) k) (opened (mk su (fresh su) l First)) more
       (fresh-good ps su l k) o) .2
 
   ran-part : Leads (wanted su ps) ((after (download ps) (opened (mk su (fresh su) l First)) more) .past)
   ran-part =
-      run-always (download ps) su Full (planned ps su (wanted su ps)) (holds ps su (wanted su ps) k) (opened (mk su (fresh su) l First)) more u
+      run-always (download ps) su (planned ps su (wanted su ps)) (holds ps su (wanted su ps) k) (opened (mk su (fresh su) l First)) more
       (fresh-good ps su l k)
 
 module _ (io : DfuSansIo) (p : DfuProtocol) (fw ps : List ℕ) (budget : ℕ) (s : Session) (more : List Answer) where
@@ -121,31 +118,28 @@ module _ (io : DfuSansIo) (p : DfuProtocol) (fw ps : List ℕ) (budget : ℕ) (s
   su = setupOf io p (length fw) (length ps)
 
   -- A FINISHED RUN HAS SENT THE PLAN: its download requests, on the wire, are the papers'
-  pub finished-sends-the-plan : 0 < length fw → 0 < io .descriptor .«transfer_size» → Begins io p fw ps budget s → Fits Full (download ps) s more
+  pub finished-sends-the-plan : 0 < length fw → 0 < io .descriptor .«transfer_size» → Begins io p fw ps budget s
       → Over ((after (download ps) (opened s) more) .session .phase)
       → map (onWire fw) (commanded ((after (download ps) (opened s) more) .past)) ≡ planOf io p fw ps
   finished-sends-the-plan h k b =
       let (l, z, e) = begun io p fw ps budget s h k b in
       subst
       (λ (x : Session).
-      Fits Full (download ps) x more
-      → Over ((after (download ps) (opened x) more) .session .phase)
+      Over ((after (download ps) (opened x) more) .session .phase)
       → map (onWire fw) (commanded ((after (download ps) (opened x) more) .past)) ≡ planOf io p fw ps)
       (sym e)
-      (λ u o. ap (λ (x : List Command). map (onWire fw) x) (ran-whole ps su l more k u o) ∙ wanted-plan fw su ps refl k)
+      (λ o. ap (λ (x : List Command). map (onWire fw) x) (ran-whole ps su l more k o) ∙ wanted-plan fw su ps refl k)
 
   -- EVERY RUN HAS SENT A LEADING PART OF IT, refused ones too
-  pub every-run-leads-the-plan : 0 < length fw → 0 < io .descriptor .«transfer_size» → Begins io p fw ps budget s → Fits Full (download ps) s more
+  pub every-run-leads-the-plan : 0 < length fw → 0 < io .descriptor .«transfer_size» → Begins io p fw ps budget s
       → (rest : List Dnload) × (map (onWire fw) (commanded ((after (download ps) (opened s) more) .past)) ++ rest ≡ planOf io p fw ps)
   every-run-leads-the-plan h k b =
       let (l, z, e) = begun io p fw ps budget s h k b in
       subst
       (λ (x : Session).
-      Fits Full (download ps) x more
-      → (rest : List Dnload) × (map (onWire fw) (commanded ((after (download ps) (opened x) more) .past)) ++ rest ≡ planOf io p fw ps))
+      (rest : List Dnload) × (map (onWire fw) (commanded ((after (download ps) (opened x) more) .past)) ++ rest ≡ planOf io p fw ps))
       (sym e)
-      (λ u.
-      let (rest, v) = ran-part ps su l more k u in (
+      (let (rest, v) = ran-part ps su l more k in (
         map (onWire fw) rest,
         sym (map-append (onWire fw) (commanded ((after (download ps) (opened (mk su (fresh su) l First)) more) .past)) rest)
             ∙ ap (λ (x : List Command). map (onWire fw) x) v

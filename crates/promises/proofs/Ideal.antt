@@ -29,7 +29,7 @@ use Rattle.plan.specs.Answers.{ideal}
 use Rattle.plan.specs.Sent.{Begins}
 use Rattle.promises.proofs.Walk.{Claims, Holds, ClaimAt, Good, tell-good, either-end}
 use Rattle.promises.proofs.Lasting.{lasting, OfWait, lasting-holds, unit-wish}
-use Rattle.promises.proofs.Spends.{Any, any-fits}
+use Rattle.promises.proofs.Counted.{whole-taken}
 use Rattle.promises.proofs.Started.{started}
 
 -- its answers to n asks
@@ -51,30 +51,30 @@ module _ (w : Work) (su : Setup) where
   waits (Block n f m) = refl
   waits (Empty n) = picked Shown (su .tolerant) DfuIdle DfuManifest (λ e. refl) (λ e. refl)
 
-  holds : Holds w su Any sane
+  holds : Holds w su sane
   holds =
       lasting-holds _ _ _ _ w su
-      (record { waits = waits; ends = λ l h. either-end w su Any sane l h tt tt; reset = λ v. tt; wishes = λ pr. unit-wish (w .next su pr); denies = λ e d. tt })
+      (record { waits = waits; ends = λ l h. either-end w su sane l h tt tt; reset = λ v. tt; wishes = λ pr. unit-wish (w .next su pr); denies = λ e d. tt })
 
-  fine : (j : ℕ) (p : Phase) (pr : Progress) (l : ℕ) (h : List Event) → ClaimAt w su Any sane p pr l h → Fine j p (ideal p)
+  fine : (j : ℕ) (p : Phase) (pr : Progress) (l : ℕ) (h : List Event) → ClaimAt w su sane p pr l h → Fine j p (ideal p)
   fine j First pr l h v = (le-refl _, tt)
   fine j Clear pr l h v = tt
   fine j Second pr l h v = (le-refl _, (refl, refl))
-  fine j (Sent c) pr l h v = le-refl _
+  fine j (Sent c) pr l h v = whole-taken c
   fine j (Waiting (Pause b t ms)) pr l h v = tt
   fine j (Waiting (Poll b t)) pr l h v = (le-refl _, (refl, inl v))
   fine j Resetting pr l h v = tt
   fine j (Finished e) pr l h v = tt
   fine j (Refused e) pr l h v = tt
 
-  ideals-fair : (k j : ℕ) (x : World) (n : ℕ) → Good w su Any sane x → Fair k j w (x .session) (ideals w (x .session) n)
+  ideals-fair : (k j : ℕ) (x : World) (n : ℕ) → Good w su sane x → Fair k j w (x .session) (ideals w (x .session) n)
   unfolding FairBy ideals
   ideals-fair k j x zero v = tt
   ideals-fair k j x (suc n) v =
       let s : Session = x .session in
       let a : Answer = ideal (s .phase) in (
         fine j (s .phase) (s .progress) (s .left) (x .past) (v .holds),
-        ideals-fair k (allowed k j (s .phase)) (tell w x a) n (tell-good w su Any sane holds x a (any-fits (s .phase) a) v),
+        ideals-fair k (allowed k j (s .phase)) (tell w x a) n (tell-good w su sane holds x a v),
       )
 
 -- each of them is awaited
@@ -108,10 +108,10 @@ fair-answers k io p fw ps budget s n b =
     let w : Work = download ps in
     let su : Setup = setupOf io p (length fw) (length ps) in
     let (l, e) = started io p fw ps budget s b in
-    let g : Good w su Any sane (opened s) =
+    let g : Good w su sane (opened s) =
     ⊎-elim
-    (λ q. subst (λ (x : Session). Good w su Any sane (opened x)) (sym q) (record { setup = refl; holds = tt }))
-    (λ q. subst (λ (x : Session). Good w su Any sane (opened x)) (sym q) (record { setup = refl; holds = tt }))
+    (λ q. subst (λ (x : Session). Good w su sane (opened x)) (sym q) (record { setup = refl; holds = tt }))
+    (λ q. subst (λ (x : Session). Good w su sane (opened x)) (sym q) (record { setup = refl; holds = tt }))
     e in (
       ideals w s n,
       subst (λ (x : List Answer). Fair k 0 w s x) (sym (ideals-heeded w s n)) (ideals-fair w su k 0 (opened s) n g),

@@ -18,7 +18,6 @@ use Rattle.session.specs.declared.Todo.{Todo}
 use Rattle.session.specs.declared.Todo.the-variants.{Send, End as Ends, Refuse}
 use Rattle.promises.specs.Run.{Event}
 use Rattle.promises.proofs.Walk.{Claims, Ending, Holds, Wished, EndAt, WaitingAt}
-use Rattle.promises.proofs.Spends.{Any}
 
 module _ (W : State → State → Type 0) (R : Type 0) (F : End → Type 0) (D : Error → Type 0) where
   abbrev pub lasting : Claims
@@ -47,24 +46,24 @@ module _ (W : State → State → Type 0) (R : Type 0) (F : End → Type 0) (D :
   -- what is asked of them: each wait begins with its claim, the end has its own, and so has every refusal
   pub record Lasts (w : Work) (su : Setup) : Type 0 where
     pub waits : (c : Command) → OfWait (waitAfter su c)
-    pub ends : (l : ℕ) (h : List Event) → EndAt w su Any lasting (endPhase su) l h
+    pub ends : (l : ℕ) (h : List Event) → EndAt w su lasting (endPhase su) l h
     pub reset : R → F Reset
     pub wishes : (pr : Progress) → OfWish (w .next su pr)
     pub denies : (e : Error) → Ending e → D e
 
   module _ (w : Work) (su : Setup) (g : Lasts w su) where
-    waiting : (c : Command) (pr : Progress) (l : ℕ) (h : List Event) → OfWait (waitAfter su c) → WaitingAt w su Any lasting (waitAfter su c) pr l h
+    waiting : (c : Command) (pr : Progress) (l : ℕ) (h : List Event) → OfWait (waitAfter su c) → WaitingAt w su lasting (waitAfter su c) pr l h
     waiting (Erase a) pr l h v = v
     waiting (SetAddress a) pr l h v = v
     waiting (Block n f m) pr l h v = v
     waiting (Empty n) pr l h v = v
 
-    wished : (l : ℕ) (h : List Event) (t : Todo) → OfWish t → Wished w su Any lasting l h t
-    wished l h (Send c then) v = λ m e. (tt, λ n u. waiting c (w .took su then c n) m _ (g .waits c))
+    wished : (l : ℕ) (h : List Event) (t : Todo) → OfWish t → Wished w su lasting l h t
+    wished l h (Send c then) v = λ m e. (tt, waiting c (w .took su then c) m _ (g .waits c))
     wished l h Ends v = g .ends l h
     wished l h (Refuse e) v = v
 
-    pub lasting-holds : Holds w su Any lasting
+    pub lasting-holds : Holds w su lasting
     lasting-holds = record {
       first = λ pr l h st v. picked (λ (X : Type 0). X) (eqb st 10) _ _ (λ e. tt) (λ e. tt);
       clear = λ pr l h v. tt;

@@ -1,6 +1,8 @@
 pub mod Pinned
 pub mod Starred
+pub mod Counted
 pub mod Walk
+pub mod Steady
 pub mod Wanted
 pub mod Onwire
 pub mod Started
@@ -21,5 +23,6 @@ pub mod Ideal
 pub mod Machines
 pub mod Reached
 pub mod Believed
+pub mod Limits
 pub mod Demand
 pub mod Enough

@@ -17,7 +17,7 @@ use Rattle.get_status.specs.declared.Reply.{Reply}
 use Rattle.get_status.specs.declared.Reply.the-variants.{ResponseTooShort as ShortReply, StatusError as BadStatus, Read}
 use Rattle.get_status.specs.declared.Met.{Met}
 use Rattle.get_status.specs.declared.Met.the-variants.{Busy}
-use Rattle.session.specs.Machine.{Answer, count, reply, waited, wasReset, failed, Work, mk, issue, proceed, waitAfter, firstReply, laterReply, reading, onFirst, onSecond, onMet, onPoll, asksAt, go, toldAt, told}
+use Rattle.session.specs.Machine.{Answer, count, reply, waited, wasReset, failed, Work, mk, issue, proceed, waitAfter, onCount, firstReply, laterReply, reading, onFirst, onSecond, onMet, onPoll, asksAt, go, toldAt, told}
 use Rattle.session.specs.declared.Command.{Command}
 use Rattle.session.specs.declared.Command.the-variants.{Erase, SetAddress, Block, Empty}
 use Rattle.session.specs.declared.Request.{Request}
@@ -33,22 +33,22 @@ use Rattle.session.specs.declared.Todo.the-variants.{Send, End as Ends, Refuse}
 use Rattle.session.specs.declared.Ask.{Ask}
 use Rattle.session.specs.declared.Ask.the-variants.{Transfer, Wait as WaitFor, Reset as ResetBus, Finished as HasFinished, Refused as SaysNo}
 use Rattle.session.specs.declared.Step.{Step}
-use Rattle.plan.specs.Answers.{wholeOf}
-use Rattle.promises.specs.Run.{Event, sends, sentBy, shownBy, shownFirst, shownLater, heardAt, World, tell, after, afterBy, transfers, cleared, Unrefused, Over, Full}
+use Rattle.promises.specs.Run.{Event, sends, sentBy, shownBy, shownFirst, shownLater, heardAt, World, tell, after, afterBy, transfers, cleared, Unrefused, Over, Taken}
 use Rattle.promises.specs.Fair.{Fine, allowed, Fair, FairBy, Yes, AllYes, AllYesBy}
+use Rattle.promises.proofs.Counted.{taken-true}
 use Rattle.promises.proofs.Wanted.{Heads}
-use Rattle.promises.proofs.Spends.{tell-adds, tell-setup}
+use Rattle.promises.proofs.Steady.{tell-setup}
+use Rattle.promises.proofs.Spends.{tell-adds}
 
 -- with room the work isn't refused, and keeps room
 abbrev pub Wants : Work → (Progress → Type 0) → Setup → Todo → Type 0
-Wants w room su (Send c then) = room (w .took su then c (wholeOf c))
+Wants w room su (Send c then) = room (w .took su then c)
 Wants w room su Ends = Unit
 Wants w room su (Refuse e) = ⊥
 
--- what is asked of the work: its wishes are a list, a full count moves it as the whole one does, and with room it isn't refused
+-- what is asked of the work: its wishes are a list, and with room it isn't refused
 pub record Thrives (w : Work) (su : Setup) (left : Progress → List Command) (room : Progress → Type 0) : Type 0 where
   pub heads : (pr : Progress) → Heads w left su (left pr) (w .next su pr)
-  pub full : (pr : Progress) (c : Command) (n : ℕ) → Full c n → w .took su pr c n ≡ w .took su pr c (wholeOf c)
   pub wants : (pr : Progress) → room pr → Wants w room su (w .next su pr)
 
 module _ (w : Work) (left : Progress → List Command) (room : Progress → Type 0) where
@@ -57,7 +57,7 @@ module _ (w : Work) (left : Progress → List Command) (room : Progress → Type
   restAt su pr First = left pr
   restAt su pr Clear = left pr
   restAt su pr Second = left pr
-  restAt su pr (Sent c) = left (w .took su pr c (wholeOf c))
+  restAt su pr (Sent c) = left (w .took su pr c)
   restAt su pr (Waiting x) = left pr
   restAt su pr Resetting = []
   restAt su pr (Finished e) = []
@@ -67,7 +67,7 @@ module _ (w : Work) (left : Progress → List Command) (room : Progress → Type
   RoomAt su pr First = room pr
   RoomAt su pr Clear = room pr
   RoomAt su pr Second = room pr
-  RoomAt su pr (Sent c) = room (w .took su pr c (wholeOf c))
+  RoomAt su pr (Sent c) = room (w .took su pr c)
   RoomAt su pr (Waiting x) = room pr
   RoomAt su pr Resetting = Unit
   RoomAt su pr (Finished e) = Unit
@@ -134,9 +134,9 @@ module _ (w : Work) (left : Progress → List Command) (room : Progress → Type
         → Lives j (length (left pr) * (k + 2)) (2 + length (left pr) * (2 * k + 3)) (go (proceed su pr l t))
     unfolding transfers cleared
     proceed-lives j su pr l (Send c then) h v m =
-        let e : suc (length (left (w .took su then c (wholeOf c)))) ≡ length (left pr) = ap length h in
-        let e₁ : suc (length (left (w .took su then c (wholeOf c)))) * (k + 2) ≡ length (left pr) * (k + 2) = ap (λ (x : ℕ). x * (k + 2)) e in
-        let e₂ : suc (length (left (w .took su then c (wholeOf c)))) * (2 * k + 3) ≡ length (left pr) * (2 * k + 3) = ap (λ (x : ℕ). x * (2 * k + 3)) e in
+        let e : suc (length (left (w .took su then c))) ≡ length (left pr) = ap length h in
+        let e₁ : suc (length (left (w .took su then c))) * (k + 2) ≡ length (left pr) * (k + 2) = ap (λ (x : ℕ). x * (k + 2)) e in
+        let e₂ : suc (length (left (w .took su then c))) * (2 * k + 3) ≡ length (left pr) * (2 * k + 3) = ap (λ (x : ℕ). x * (2 * k + 3)) e in
         ask-lives j _ _ su pr then l (Commands c) (Sent c) (omega arith) v refl (omega arith) (omega arith)
     proceed-lives j su pr l Ends h v m =
         picked P (su .tolerant) _ _
@@ -198,18 +198,15 @@ module _ (w : Work) (left : Progress → List Command) (room : Progress → Type
 
     -- one fair answer
     module _ (su : Setup) (law : Thrives w su left room) where
-      sent-lives : (pr : Progress) (l : ℕ) (c : Command) (n : ℕ) → Full c n → room (w .took su pr c (wholeOf c))
-          → Lives k (needAt k 0 su pr (Sent c)) (tellsAt k 0 su pr (Sent c)) (go (mk su (w .took su pr c n) l (Waiting (waitAfter su c))))
+      sent-lives : (pr : Progress) (l : ℕ) (c : Command) (n : ℕ) → Taken c n → room (w .took su pr c)
+          → Lives k (needAt k 0 su pr (Sent c)) (tellsAt k 0 su pr (Sent c)) (go (onCount su pr l c (w .took su pr c) n))
       unfolding transfers cleared
-      sent-lives pr l c n u v = subst P (sym (law .full pr c n u)) (by c)
+      sent-lives pr l c n u v = rw (taken-true c n u) (by c)
         where
-          P : Progress → Type 0
-          P x = Lives k (needAt k 0 su pr (Sent c)) (tellsAt k 0 su pr (Sent c)) (go (mk su x l (Waiting (waitAfter su c))))
-
-          at-first : (b t : State) → Lives k (needAt k 0 su pr (Sent c)) (tellsAt k 0 su pr (Sent c)) (go (mk su (w .took su pr c (wholeOf c)) l (Waiting (Pause b t 0))))
+          at-first : (b t : State) → Lives k (needAt k 0 su pr (Sent c)) (tellsAt k 0 su pr (Sent c)) (go (mk su (w .took su pr c) l (Waiting (Pause b t 0))))
           at-first b t = record { roomy = v; cost = omega arith; time = omega arith; yes = tt }
 
-          by : (d : Command) → Lives k (needAt k 0 su pr (Sent c)) (tellsAt k 0 su pr (Sent c)) (go (mk su (w .took su pr c (wholeOf c)) l (Waiting (waitAfter su d))))
+          by : (d : Command) → Lives k (needAt k 0 su pr (Sent c)) (tellsAt k 0 su pr (Sent c)) (go (mk su (w .took su pr c) l (Waiting (waitAfter su d))))
           by (Erase a) = at-first _ _
           by (SetAddress a) = at-first _ _
           by (Block a b m) = at-first _ _

@@ -8,7 +8,7 @@ use lib.ListN.{length, getD, length-append, length-map}
 use Rattle.ground.specs.Bytes.{littleEndian, field, bytesLow}
 use Rattle.protocol.specs.declared.DfuProtocol.the-variants.{Dfu, Dfuse}
 use Rattle.session.specs.Machine.{Answer, count, waited, mk, onFirst, onSecond, onPoll, told}
-use Rattle.session.specs.Download.{download, covering, eraseNext, writeNext, nextOf, tookOf}
+use Rattle.session.specs.Download.{download, blockCount, covering, eraseNext, writeNext, nextOf, tookOf}
 use Rattle.session.specs.Start.{setupOf, fresh, begunOf, beginOf}
 use Rattle.session.specs.declared.Request.the-variants.{GetStatus}
 use Rattle.session.specs.declared.End.{End}
@@ -17,13 +17,15 @@ use Rattle.session.specs.declared.Session.{Session}
 use Rattle.session.specs.declared.start.DfuSansIo.{DfuSansIo}
 use Rattle.session.specs.declared.start.StartError.{StartError}
 use Rattle.session.specs.declared.start.Started.the-variants.{Session as Begun, Refused as Unbegun}
-use Rattle.plan.specs.Plan.{Dnload, erasing, several, blockCount, blockOf, plan}
-use Rattle.promises.specs.Run.{Event, sends, hears, opened, afterBy, inTime, transfers, commanded, cleared, FitsBy}
+use Rattle.plan.specs.Plan.{Dnload, erasing, several, blockOf, plan}
+use Rattle.promises.specs.Run.{Event, sends, hears, opened, afterBy, inTime, transfers, commanded, cleared}
 use Rattle.plan.specs.Sent.{onWire, planOf}
 use Rattle.promises.specs.Whole.{opening, busyAfter, targetAfter, looks, Round, roundOf, rounds, requestOf, Listed}
 use Rattle.promises.specs.Fair.{heededBy, FairBy, Ready}
 use Rattle.promises.specs.Samples.{deviceOf, shows}
-use Rattle.promises.specs.Machines.{ours, SendsThePlan, LeadsThePlan, ListsAll, Starts, Finishing, Sufficing, Spends, refusing, fixed, idle, hasty, blind, inventive, numberedFromThree, onePageMore, addressTwice}
+use Rattle.promises.specs.Machines.{ours, SendsThePlan, LeadsThePlan, ListsAll, Starts, Finishing, Sufficing, Spends, WholeBlocks, refusing, fixed, idle, hasty, blind, credulous, inventive, numberedFromThree, onePageMore, addressTwice}
+use Rattle.promises.specs.Believed.{AllAtBy}
+use Rattle.promises.proofs.Believed.{unrefused-whole, over-unrefused}
 use Rattle.promises.proofs.Started.{start-adds}
 use Rattle.promises.proofs.Finishes.{finished-sends-the-plan, every-run-leads-the-plan}
 use Rattle.promises.proofs.Whole.{finished-lists}
@@ -33,13 +35,13 @@ use Rattle.promises.proofs.Finish.{starts, finishes}
 
 -- OURS HAS THEM
 pub ours-sends : SendsThePlan ours
-ours-sends io p fw ps budget s more h k b u o = finished-sends-the-plan io p fw ps budget s more h k b u o
+ours-sends io p fw ps budget s more h k b o = finished-sends-the-plan io p fw ps budget s more h k b o
 
 pub ours-leads : LeadsThePlan ours
-ours-leads io p fw ps budget s more h k b u = every-run-leads-the-plan io p fw ps budget s more h k b u
+ours-leads io p fw ps budget s more h k b = every-run-leads-the-plan io p fw ps budget s more h k b
 
 pub ours-lists : ListsAll ours
-ours-lists io p fw ps budget s more h k b u o = finished-lists io p fw ps budget s more h k b u o
+ours-lists io p fw ps budget s more h k b o = finished-lists io p fw ps budget s more h k b o
 
 pub ours-starts : Starts ours
 ours-starts io p fw ps zero r h = absurd (omega arith)
@@ -56,12 +58,15 @@ ours-suffices io p fw ps k budget s more r b f m =
 pub ours-spends : Spends ours
 ours-spends io p fw ps budget s more b = run-adds (download ps) (opened s) more budget (start-adds io p fw ps budget s b)
 
+pub ours-whole : WholeBlocks ours
+ours-whole io p fw ps budget s more b o = unrefused-whole (download ps) (opened s) more (over-unrefused ((afterBy (ours .told ps) (opened s) more) .session .phase) o)
+
 -- two small updates: one byte, plain, and one byte to two pages of one byte
 abbrev sample : DfuSansIo
 sample = deviceOf true false 8
 
 ready : Ready sample Dfu (7 ∷ []) []
-ready = record { some = omega arith; short = omega arith; sized = omega arith; few = λ e. absurd (true≢false (sym e)); covered = λ e. absurd (true≢false (sym e)); below = λ e. absurd (true≢false (sym e)) }
+ready = record { some = omega arith; short = omega arith; sized = omega arith; few = λ e. absurd (true≢false (sym e)); numbered = λ e. absurd (true≢false (sym e)); covered = λ e. absurd (true≢false (sym e)); below = λ e. absurd (true≢false (sym e)) }
 
 abbrev begunPlain : Session
 begunPlain = mk (setupOf sample Dfu 1 0) (fresh (setupOf sample Dfu 1 0)) 99 First
@@ -105,9 +110,9 @@ idle-shut-out f =
 
 -- FINISHING AT THE FIRST CALL has not sent the plan
 pub hasty-shut-out : SendsThePlan hasty → ⊥
-unfolding beginOf begunOf afterBy FitsBy commanded plan several blockCount
+unfolding beginOf begunOf afterBy commanded plan several blockCount
 hasty-shut-out f =
-    let e : [] ≡ planOf sample Dfu (7 ∷ []) [] = f sample Dfu (7 ∷ []) [] 100 begunPlain (waited ∷ []) (omega arith) (omega arith) refl (tt, tt) tt in
+    let e : [] ≡ planOf sample Dfu (7 ∷ []) [] = f sample Dfu (7 ∷ []) [] 100 begunPlain (waited ∷ []) (omega arith) (omega arith) refl tt in
     let n : _≡_ {A = ℕ} 0 2 = ap (λ (x : List Dnload). length x) e in
     omega (arith, n)
 
@@ -131,15 +136,22 @@ rounds-long t (r ∷ rs) =
     )
 
 pub blind-shut-out : ListsAll blind → ⊥
-unfolding beginOf begunOf afterBy FitsBy told onFirst onSecond nextOf writeNext tookOf field littleEndian inTime plan several blockCount
+unfolding beginOf begunOf afterBy told onFirst onSecond nextOf writeNext tookOf field littleEndian inTime plan several blockCount
 blind-shut-out f =
     let v : Listed sample Dfu (7 ∷ []) [] _ =
-    f sample Dfu (7 ∷ []) [] 100 begunPlain (shows 2 ∷ shows 2 ∷ count 1 ∷ count 0 ∷ []) (omega arith) (omega arith) refl
-    (tt, (tt, (omega arith, (omega arith, tt)))) tt in
+    f sample Dfu (7 ∷ []) [] 100 begunPlain (shows 2 ∷ shows 2 ∷ count 1 ∷ count 0 ∷ []) (omega arith) (omega arith) refl tt in
     let n : length (v .all) ≡ 2 =
     sym (length-map (v .all) requestOf) ∙ sym (length-map (map requestOf (v .all)) (onWire (7 ∷ []))) ∙ ap (λ (x : List Dnload). length x) (v .requests) in
     let m : 6 ≡ length (opening (v .shown) ++ rounds true (v .all)) = ap (λ (x : List Event). length x) (v .events) in
     omega (arith, n, m, rounds-long true (v .all), length-append (opening (v .shown)) (rounds true (v .all)))
+
+-- ANY COUNT TAKEN FOR A WHOLE BLOCK: it finishes though the one block was told 0 of its 1 byte
+pub credulous-shut-out : WholeBlocks credulous → ⊥
+unfolding beginOf begunOf afterBy AllAtBy told onFirst onSecond onPoll nextOf writeNext tookOf field littleEndian blockCount
+credulous-shut-out f =
+    let v = f sample Dfu (7 ∷ []) [] 100 begunPlain (shows 2 ∷ shows 2 ∷ round 0 5 (round 0 2 [])) refl tt in
+    let n : _≡_ {A = ℕ} 0 1 = v .1 .1 .0 in
+    omega (arith, n)
 
 -- the answers to an erase, the address, the block and the empty one, with more of the first kind before
 abbrev dfuseAnswers : List Answer → List Answer
@@ -153,30 +165,27 @@ numbersOf l = map (λ (x : Dnload). x .setup .wValue) l
 
 -- THE FIRST NUMBER 3 isn't the plan's
 pub numbered-from-three-shut-out : SendsThePlan numberedFromThree → ⊥
-unfolding beginOf begunOf afterBy FitsBy commanded told onFirst onSecond onPoll eraseNext writeNext nextOf tookOf field littleEndian bytesLow covering plan erasing several blockOf blockCount numbersOf
+unfolding beginOf begunOf afterBy commanded told onFirst onSecond onPoll eraseNext writeNext nextOf tookOf field littleEndian bytesLow covering plan erasing several blockOf blockCount numbersOf
 numbered-from-three-shut-out f =
     let e =
-    f sample (Dfuse 0) (7 ∷ []) (1 ∷ 1 ∷ []) 100 _ (dfuseAnswers lastAnswers) (omega arith) (omega arith) refl
-    (tt, (tt, (omega arith, (tt, (tt, (omega arith, (tt, (tt, (omega arith, (tt, (tt, (omega arith, (tt, (tt, tt)))))))))))))) tt in
+    f sample (Dfuse 0) (7 ∷ []) (1 ∷ 1 ∷ []) 100 _ (dfuseAnswers lastAnswers) (omega arith) (omega arith) refl tt in
     let n : _≡_ {A = ℕ} 3 2 = ap (λ (x : List Dnload). getD (numbersOf x) 2 0) e in
     omega (arith, n)
 
 -- ONE PAGE MORE isn't the plan
 pub one-page-more-shut-out : SendsThePlan onePageMore → ⊥
-unfolding beginOf begunOf afterBy FitsBy commanded told onFirst onSecond onPoll eraseNext writeNext nextOf tookOf field littleEndian bytesLow covering plan erasing several blockOf blockCount
+unfolding beginOf begunOf afterBy commanded told onFirst onSecond onPoll eraseNext writeNext nextOf tookOf field littleEndian bytesLow covering plan erasing several blockOf blockCount
 one-page-more-shut-out f =
     let e =
-    f sample (Dfuse 0) (7 ∷ []) (1 ∷ 1 ∷ []) 100 begunDfuse (dfuseAnswers (round 5 5 lastAnswers)) (omega arith) (omega arith) refl
-    (tt, (tt, (omega arith, (tt, (tt, (omega arith, (tt, (tt, (omega arith, (tt, (tt, (omega arith, (tt, (tt, (omega arith, (tt, (tt, tt))))))))))))))))) tt in
+    f sample (Dfuse 0) (7 ∷ []) (1 ∷ 1 ∷ []) 100 begunDfuse (dfuseAnswers (round 5 5 lastAnswers)) (omega arith) (omega arith) refl tt in
     let n : _≡_ {A = ℕ} 5 4 = ap (λ (x : List Dnload). length x) e in
     omega (arith, n)
 
 -- THE ADDRESS SET TWICE isn't either
 pub address-twice-shut-out : SendsThePlan addressTwice → ⊥
-unfolding beginOf begunOf afterBy FitsBy commanded told onFirst onSecond onPoll eraseNext writeNext nextOf tookOf field littleEndian bytesLow covering plan erasing several blockOf blockCount
+unfolding beginOf begunOf afterBy commanded told onFirst onSecond onPoll eraseNext writeNext nextOf tookOf field littleEndian bytesLow covering plan erasing several blockOf blockCount
 address-twice-shut-out f =
     let e =
-    f sample (Dfuse 0) (7 ∷ []) (1 ∷ 1 ∷ []) 100 begunDfuse (dfuseAnswers (round 5 5 lastAnswers)) (omega arith) (omega arith) refl
-    (tt, (tt, (omega arith, (tt, (tt, (omega arith, (tt, (tt, (omega arith, (tt, (tt, (omega arith, (tt, (tt, (omega arith, (tt, (tt, tt))))))))))))))))) tt in
+    f sample (Dfuse 0) (7 ∷ []) (1 ∷ 1 ∷ []) 100 begunDfuse (dfuseAnswers (round 5 5 lastAnswers)) (omega arith) (omega arith) refl tt in
     let n : _≡_ {A = ℕ} 5 4 = ap (λ (x : List Dnload). length x) e in
     omega (arith, n)

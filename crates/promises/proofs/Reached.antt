@@ -9,14 +9,13 @@ use lib.ListN.{length}
 use Rattle.ground.specs.Bytes.{littleEndian, field}
 use Rattle.protocol.specs.declared.DfuProtocol.the-variants.{Dfuse}
 use Rattle.session.specs.Machine.{Answer, count, reply, waited, mk, onFirst, onSecond, onPoll, told}
-use Rattle.session.specs.Download.{download, covering, eraseNext, writeNext, nextOf, tookOf}
+use Rattle.session.specs.Download.{download, blockCount, covering, eraseNext, writeNext, nextOf, tookOf}
 use Rattle.session.specs.Start.{setupOf, fresh, begunOf, beginOf}
 use Rattle.session.specs.declared.Error.the-variants.{BudgetSpent}
 use Rattle.session.specs.declared.End.the-variants.{Stays}
 use Rattle.session.specs.declared.Phase.the-variants.{First, Finished, Refused}
 use Rattle.session.specs.declared.Session.{Session}
 use Rattle.session.specs.declared.start.DfuSansIo.{DfuSansIo}
-use Rattle.plan.specs.Plan.{blockCount}
 use Rattle.promises.specs.Run.{opened, after, afterBy, transfers, cleared}
 use Rattle.plan.specs.Sent.{Begins}
 use Rattle.promises.specs.Samples.{deviceOf, shows}
@@ -41,21 +40,20 @@ abbrev answers : List Answer
 answers = reply (3 ∷ 0 ∷ 0 ∷ 0 ∷ 10 ∷ 0 ∷ []) ∷ count 0 ∷ shows 2 ∷ slow 5 4 5 (slow 5 4 5 (slow 1 4 5 (slow 0 7 2 [])))
 
 pub reached-begins : Begins counter (Dfuse 0) (7 ∷ []) pages 19 (begunWith 18) × Begins counter (Dfuse 0) (7 ∷ []) pages 18 (begunWith 17)
-unfolding beginOf begunOf
+unfolding beginOf begunOf blockCount
 reached-begins = (refl, refl)
 
 pub reached-fair : Fair 2 0 (download pages) (begunWith 18) answers
-unfolding FairBy told onFirst onSecond onPoll eraseNext writeNext nextOf tookOf field littleEndian
+unfolding FairBy told onFirst onSecond onPoll eraseNext writeNext nextOf tookOf field littleEndian blockCount
 reached-fair =
-    let six : 6 ≤ 6 = omega arith in
-    let n : 0 ≤ 5 = omega arith in (
+    let six : 6 ≤ 6 = omega arith in (
       (six, tt),
       (
         tt,
         (
           (six, (refl, refl)),
           (
-            n,
+            tt,
             (
               tt,
               (
@@ -69,7 +67,7 @@ reached-fair =
                       (
                         (six, (refl, inl refl)),
                         (
-                          n,
+                          tt,
                           (
                             tt,
                             (
@@ -83,7 +81,7 @@ reached-fair =
                                     (
                                       (six, (refl, inl refl)),
                                       (
-                                        omega arith,
+                                        refl,
                                         (
                                           tt,
                                           (
@@ -97,7 +95,7 @@ reached-fair =
                                                   (
                                                     (six, (refl, inl refl)),
                                                     (
-                                                      omega arith,
+                                                      tt,
                                                       (tt, ((six, (refl, inr (refl, omega arith))), (tt, ((six, (refl, inr (refl, omega arith))), (tt, ((six, (refl, inl refl)), tt)))))),
                                                     ),
                                                   ),
@@ -134,14 +132,14 @@ bound-reached =
     spent ∙ most
 
 pub reached-clears : cleared ((after (download pages) (opened (begunWith 18)) answers) .past) ≡ 1
-unfolding afterBy cleared told onFirst onSecond onPoll eraseNext writeNext nextOf tookOf field littleEndian
+unfolding afterBy cleared told onFirst onSecond onPoll eraseNext writeNext nextOf tookOf field littleEndian blockCount
 reached-clears = refl
 
 pub reached-finishes : (after (download pages) (opened (begunWith 18)) answers) .session .phase ≡ Finished Stays
-unfolding afterBy told onFirst onSecond onPoll eraseNext writeNext nextOf tookOf field littleEndian
+unfolding afterBy told onFirst onSecond onPoll eraseNext writeNext nextOf tookOf field littleEndian blockCount
 reached-finishes = refl
 
 -- ONE LESS is 23
 pub one-less-is-spent : (after (download pages) (opened (begunWith 17)) answers) .session .phase ≡ Refused BudgetSpent
-unfolding afterBy told onFirst onSecond onPoll eraseNext writeNext nextOf tookOf field littleEndian
+unfolding afterBy told onFirst onSecond onPoll eraseNext writeNext nextOf tookOf field littleEndian blockCount
 one-less-is-spent = refl

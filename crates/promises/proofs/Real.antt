@@ -31,7 +31,7 @@ use Rattle.session.specs.declared.Ask.the-variants.{Transfer, Refused as SaysNo
 use Rattle.session.specs.declared.Step.{Step}
 use Rattle.promises.specs.Run.{Event, sentBy, World, tell, after, afterBy}
 use Rattle.promises.specs.Calls.{Call, outcome, heardThrough, call, calls, Lends, AllLend, rightly, passed, AllPass, answers}
-use Rattle.promises.proofs.Spends.{tell-setup}
+use Rattle.promises.proofs.Steady.{tell-setup}
 use Rattle.plan.proofs.Wire.{erase-command, address-command}
 
 -- lent as at start

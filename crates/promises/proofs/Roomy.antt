@@ -1,5 +1,5 @@
 -- The download has room where pages cover the target and positions stay below 2^32, and with room it isn't refused. Assumes nothing.
-use Prim.Native.Nat.{ℕ, suc, _+_, _-_, _<_, _≤_, min}
+use Prim.Native.Nat.{ℕ, suc, _+_, _-_, _<_, _≤_}
 use native.Mathlib.Numerals.{add-one}
 use native.Mathlib.Omega.{arith}
 use mathlib.Core.Path.{_≡_, refl, ap, _∙_}
@@ -12,7 +12,7 @@ use borrow.Author.Tests.{ltb-true, ltb-false}
 use Rattle.ground.specs.Pick.{pick}
 use Rattle.ground.proofs.Tests.{picked}
 use Rattle.protocol.specs.declared.DfuProtocol.{DfuProtocol}
-use Rattle.session.specs.Download.{limit, endOf, blockLength, covering, passed, numbered, accepted, eraseNext, writeNext, nextAt, nextOf, tookOf, download}
+use Rattle.session.specs.Download.{limit, endOf, covering, passed, eraseNext, writeNext, nextAt, nextOf, tookOf, download}
 use Rattle.session.specs.Start.{dfuseb, targetOf, setupOf, fresh}
 use Rattle.session.specs.declared.Stage.{Stage}
 use Rattle.session.specs.declared.Stage.the-variants.{Erasing, Writing, Ending}
@@ -23,21 +23,17 @@ use Rattle.session.specs.declared.start.DfuSansIo.{DfuSansIo}
 use Rattle.plan.specs.Plan.{sum}
 use Rattle.plan.proofs.Pages.{covering-more, sum-covering}
 use Rattle.promises.specs.Fair.{Ready}
-use Rattle.promises.proofs.Wanted.{left, heads, full}
+use Rattle.promises.proofs.Wanted.{left, heads}
 use Rattle.promises.proofs.Lives.{Wants, Thrives}
-
-abbrev pub WriteRoom : Setup → Progress → Type 0
-WriteRoom su pr = (pr .place ≤ su .length) × (pr .copied + (su .length - pr .place) < limit)
 
 abbrev pub EraseRoom : List ℕ → Setup → Progress → Type 0
 EraseRoom ps su pr =
     (endOf su - pr .erased ≤ sum (drop (pr .page) ps))
     × (pr .erased + sum (covering (endOf su - pr .erased) (drop (pr .page) ps)) < limit)
-    × (WriteRoom su pr)
 
 abbrev pub roomAt : Stage → List ℕ → Setup → Progress → Type 0
 roomAt Erasing ps su pr = EraseRoom ps su pr
-roomAt Writing ps su pr = WriteRoom su pr
+roomAt Writing ps su pr = Unit
 roomAt Ending ps su pr = Unit
 
 abbrev pub room : List ℕ → Setup → Progress → Type 0
@@ -71,7 +67,7 @@ wantsAt Erasing ps su pr v =
     (λ g. on (ltb-true _ _ e) (ltb-true _ _ f))
     (λ g. below (ltb-true _ _ e) (ltb-true _ _ f) (ltb-false _ _ g)))
     (λ f. covered (ltb-true _ _ e) (ltb-false _ _ f)))
-    (λ e. v .2)
+    (λ e. tt)
   where
     P : Todo → Type 0
     P t = Wants (download ps) (room ps su) su t
@@ -87,27 +83,14 @@ wantsAt Erasing ps su pr v =
         let z : endOf su - pr .erased - getD ps (pr .page) 0 ≡ endOf su - (pr .erased + getD ps (pr .page) 0) = omega arith in (
           omega (arith, v .0, sum-left ps (pr .page) f),
           rw (← z) (omega (arith, v .1, cover-left ps (pr .page) (endOf su - pr .erased) f (omega arith))),
-          v .2,
         )
-wantsAt Writing ps su pr v =
-    picked P (ltb (pr .place) (su .length)) _ _
-    (λ e. picked P (ltb (pr .copied + blockLength su (pr .place)) limit) _ _
-    (λ f. on (ltb-true _ _ e))
-    (λ f. absurd (omega (arith, ltb-false (pr .copied + blockLength su (pr .place)) limit f))))
-    (λ e. tt)
-  where
-    P : Todo → Type 0
-    P t = Wants (download ps) (room ps su) su t
-
-    on : pr .place < su .length
-        → WriteRoom su (accepted su (numbered Writing pr (pr .copied + blockLength su (pr .place))) (min (blockLength su (pr .place)) (blockLength su (pr .place))))
-    on e = omega arith
+wantsAt Writing ps su pr v = picked (λ (t : Todo). Wants (download ps) (room ps su) su t) (ltb (pr .accepted) (su .length)) _ _ (λ e. tt) (λ e. tt)
 wantsAt Ending ps su pr v = tt
 
 -- THE DOWNLOAD THRIVES WHERE THERE IS ROOM
 pub thrives : (ps : List ℕ) (su : Setup) → 0 < su .size → Thrives (download ps) su (left ps su) (room ps su)
 unfolding nextOf
-thrives ps su h = record { heads = λ pr. heads ps su pr h; full = λ pr c n u. full su pr c n u; wants = λ pr v. wantsAt (pr .stage) ps su pr v }
+thrives ps su h = record { heads = λ pr. heads ps su pr h; wants = λ pr v. wantsAt (pr .stage) ps su pr v }
 
 -- and it has room at its start
 pub fresh-room : (io : DfuSansIo) (p : DfuProtocol) (fw ps : List ℕ) → Ready io p fw ps
@@ -126,6 +109,5 @@ fresh-room io p fw ps r = by (dfuseb p) refl
         rw y (
           omega (arith, r .covered d, sum-covering (length fw) ps),
           rw z (r .below d),
-          (omega arith, omega (arith, r .covered d, r .below d)),
         )
-    by false d = let y : pick (dfuseb p) (targetOf p (io .«override_address»)) 0 ≡ 0 = rw d in rw y (omega (arith, r .short))
+    by false d = tt

@@ -7,12 +7,12 @@ use Rattle.memory_layout.specs.Number.{readOn, numberOf}
 use Rattle.memory_layout.specs.Layout.{upTo, endOf, split, scaled, starred, pieceOf, pieces, checked, sizes}
 use Rattle.protocol.specs.Interface.{rsplit, addressOf, dfuseOf, interfaceOf}
 use Rattle.session.specs.Machine.{onFirst, onSecond, onPoll, told}
-use Rattle.session.specs.Download.{eraseNext, writeNext, nextOf, tookOf}
+use Rattle.session.specs.Download.{blockCount, eraseNext, writeNext, nextOf, tookOf}
 use Rattle.session.specs.Start.{begunOf, beginOf}
 use Rattle.plan.specs.Plan.{sum}
 use Rattle.promises.specs.Run.{afterBy, transfers}
 use Rattle.promises.specs.Starred.{cases, run, wanted}
 
 pub starred-cases : map run cases ≡ map wanted cases
-unfolding codes prefix readOn numberOf upTo endOf split scaled starred pieceOf pieces checked sizes rsplit addressOf dfuseOf interfaceOf sum onFirst onSecond onPoll told eraseNext writeNext nextOf tookOf begunOf beginOf afterBy transfers field littleEndian
+unfolding codes prefix readOn numberOf upTo endOf split scaled starred pieceOf pieces checked sizes rsplit addressOf dfuseOf interfaceOf sum onFirst onSecond onPoll told blockCount eraseNext writeNext nextOf tookOf begunOf beginOf afterBy transfers field littleEndian
 starred-cases = refl

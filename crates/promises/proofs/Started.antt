@@ -1,17 +1,19 @@
 -- What start answers: a session at its first request, one that has finished at once, or none. Assumes nothing.
-use Prim.Native.Nat.{ℕ, zero, suc, _+_, _<_}
+use Prim.Native.Nat.{ℕ, zero, suc, _+_, _<_, _≤_}
 use native.Mathlib.Omega.{arith}
 use mathlib.Core.Path.{_≡_, refl, sym, subst}
 use mathlib.Core.Logic.{_⊎_, inl, inr}
-use mathlib.Core.Bool.{Bool, true, false}
+use mathlib.Core.Bool.{Bool, true, false, true≢false}
 use mathlib.Core.List.{List}
 use lib.ListN.{length}
 use lib.Dec.{eqb, ltb}
-use borrow.Author.Tests.{eqb-true}
+use borrow.Author.Tests.{eqb-true, ltb-false, leb-false}
 use Rattle.ground.proofs.Tests.{picked}
 use Rattle.protocol.specs.declared.DfuProtocol.{DfuProtocol}
+use Rattle.protocol.specs.declared.DfuProtocol.the-variants.{Dfu, Dfuse}
 use Rattle.session.specs.Machine.{mk}
-use Rattle.session.specs.Start.{dfuseb, setupOf, fresh, nothingb, beyondb, overb, starting, begunOf, beginOf}
+use Rattle.session.specs.Download.{limit, endOf, blockCount}
+use Rattle.session.specs.Start.{dfuseb, setupOf, fresh, nothingb, beyondb, overb, maxBlocks, manyb, starting, begunOf, beginOf}
 use Rattle.session.specs.declared.End.the-variants.{Stays}
 use Rattle.session.specs.declared.Phase.the-variants.{First, Finished}
 use Rattle.session.specs.declared.Setup.{Setup}
@@ -23,18 +25,33 @@ use Rattle.session.specs.declared.start.Started.the-variants.{Session as Begun,
 use Rattle.promises.specs.Run.{opened, transfers}
 use Rattle.plan.specs.Sent.{Begins}
 
+-- what start has tested of a session at its first request: its target ends below 2^32, and DfuSe has a number for each of its blocks
+pub record Within (io : DfuSansIo) (p : DfuProtocol) (n pages : ℕ) : Type 0 where
+  pub below : endOf (setupOf io p n pages) < limit
+  pub numbered : dfuseb p ≡ true → blockCount n (io .descriptor .«transfer_size») ≤ maxBlocks
+
 -- what holds of every refusal, of the finished start and of a begun one, holds of start
 pub start-picked : (P : Started → Type 0) (io : DfuSansIo) (p : DfuProtocol) (n pages budget : ℕ) → ((e : StartError) → P (Refused e))
     → (nothingb (setupOf io p n pages) ≡ true → P (Begun (mk (setupOf io p n pages) (fresh (setupOf io p n pages)) budget (Finished Stays))))
-    → ((l : ℕ) → budget ≡ suc l → nothingb (setupOf io p n pages) ≡ false → P (Begun (mk (setupOf io p n pages) (fresh (setupOf io p n pages)) l First)))
+    → ((l : ℕ) → budget ≡ suc l → nothingb (setupOf io p n pages) ≡ false → Within io p n pages → P (Begun (mk (setupOf io p n pages) (fresh (setupOf io p n pages)) l First)))
     → P (beginOf io p n pages budget)
 unfolding beginOf begunOf
 start-picked P io p n pages budget not done on =
     picked P (ltb 4294967295 n) _ _ (λ e. not _)
     (λ e. picked P (overb (dfuseb p) pages) _ _ (λ f. not _)
     (λ f. picked P (nothingb (setupOf io p n pages)) _ _ done
-    (λ g. picked P (beyondb (setupOf io p n pages)) _ _ (λ h. not _) (λ h. last budget (λ l e. on l e g)))))
+    (λ g. picked P (beyondb (setupOf io p n pages)) _ _ (λ h. not _)
+    (λ h. picked P (manyb (dfuseb p) n (io .descriptor .«transfer_size»)) _ _ (λ k. not _)
+    (λ k. last budget (λ l b. on l b g (record { below = below p e h; numbered = numbered p k })))))))
   where
+    below : (p : DfuProtocol) → ltb 4294967295 n ≡ false → beyondb (setupOf io p n pages) ≡ false → endOf (setupOf io p n pages) < limit
+    below Dfu e h = omega (arith, ltb-false 4294967295 n e)
+    below (Dfuse a) e h = leb-false _ _ h
+
+    numbered : (p : DfuProtocol) → manyb (dfuseb p) n (io .descriptor .«transfer_size») ≡ false → dfuseb p ≡ true → blockCount n (io .descriptor .«transfer_size») ≤ maxBlocks
+    numbered Dfu e d = absurd (true≢false (sym d))
+    numbered (Dfuse a) e d = ltb-false _ _ e
+
     last : (b : ℕ) → ((l : ℕ) → b ≡ suc l → P (Begun (mk (setupOf io p n pages) (fresh (setupOf io p n pages)) l First))) → P (starting (setupOf io p n pages) b)
     last zero f = not _
     last (suc l) f = f l refl
@@ -56,7 +73,7 @@ pub begun : (io : DfuSansIo) (p : DfuProtocol) (fw ps : List ℕ) (budget : ℕ)
 begun io p fw ps budget s h k =
     start-picked P io p (length fw) (length ps) budget (λ e z. absurd (not-begun z))
     (λ e z. absurd (something (setupOf io p (length fw) (length ps)) h k e))
-    (λ l b e z. (l, b, begun-is z))
+    (λ l b e t z. (l, b, begun-is z))
   where
     P : Started → Type 0
     P x = x ≡ Begun s
@@ -67,12 +84,34 @@ pub started : (io : DfuSansIo) (p : DfuProtocol) (fw ps : List ℕ) (budget : �
     → (l : ℕ) × ((s ≡ mk (setupOf io p (length fw) (length ps)) (fresh (setupOf io p (length fw) (length ps))) l First)
     ⊎ (s ≡ mk (setupOf io p (length fw) (length ps)) (fresh (setupOf io p (length fw) (length ps))) l (Finished Stays)))
 started io p fw ps budget s =
-    start-picked P io p (length fw) (length ps) budget (λ e z. absurd (not-begun z)) (λ e z. (budget, inr (begun-is z))) (λ l b e z. (l, inl (begun-is z)))
+    start-picked P io p (length fw) (length ps) budget (λ e z. absurd (not-begun z)) (λ e z. (budget, inr (begun-is z))) (λ l b e t z. (l, inl (begun-is z)))
   where
     P : Started → Type 0
     P x = x ≡ Begun s
         → (l : ℕ) × ((s ≡ mk (setupOf io p (length fw) (length ps)) (fresh (setupOf io p (length fw) (length ps))) l First)
         ⊎ (s ≡ mk (setupOf io p (length fw) (length ps)) (fresh (setupOf io p (length fw) (length ps))) l (Finished Stays)))
+
+-- and what start has tested, unless it finished at once
+pub start-within : (io : DfuSansIo) (p : DfuProtocol) (fw ps : List ℕ) (budget : ℕ) (s : Session) → Begins io p fw ps budget s
+    → Within io p (length fw) (length ps)
+    ⊎ (s ≡ mk (setupOf io p (length fw) (length ps)) (fresh (setupOf io p (length fw) (length ps))) budget (Finished Stays))
+start-within io p fw ps budget s =
+    start-picked P io p (length fw) (length ps) budget (λ e z. absurd (not-begun z)) (λ e z. inr (begun-is z)) (λ l b e t z. inl t)
+  where
+    P : Started → Type 0
+    P x = x ≡ Begun s
+        → Within io p (length fw) (length ps)
+        ⊎ (s ≡ mk (setupOf io p (length fw) (length ps)) (fresh (setupOf io p (length fw) (length ps))) budget (Finished Stays))
+
+pub begun-within : (io : DfuSansIo) (p : DfuProtocol) (fw ps : List ℕ) (budget : ℕ) (s : Session) → 0 < length fw → 0 < io .descriptor .«transfer_size»
+    → Begins io p fw ps budget s → Within io p (length fw) (length ps)
+begun-within io p fw ps budget s h k =
+    start-picked P io p (length fw) (length ps) budget (λ e z. absurd (not-begun z))
+    (λ e z. absurd (something (setupOf io p (length fw) (length ps)) h k e))
+    (λ l b e t z. t)
+  where
+    P : Started → Type 0
+    P x = x ≡ Begun s → Within io p (length fw) (length ps)
 
 -- the budget at the start: what is left, and the first request if there is one
 pub start-adds : (io : DfuSansIo) (p : DfuProtocol) (fw ps : List ℕ) (budget : ℕ) (s : Session) → Begins io p fw ps budget s
@@ -81,7 +120,7 @@ unfolding transfers
 start-adds io p fw ps budget s =
     start-picked P io p (length fw) (length ps) budget (λ e z. absurd (not-begun z))
     (λ e z. subst Q (sym (begun-is z)) (omega arith))
-    (λ l b e z. subst Q (sym (begun-is z)) (omega (arith, b)))
+    (λ l b e t z. subst Q (sym (begun-is z)) (omega (arith, b)))
   where
     Q : Session → Type 0
     Q x = x .left + length (transfers ((opened x) .past)) ≡ budget

@@ -9,7 +9,7 @@ use lib.ListN.{length, getD}
 use Rattle.ground.proofs.Tests.{picked}
 use Rattle.protocol.specs.declared.DfuProtocol.{DfuProtocol}
 use Rattle.session.specs.Machine.{asksAt, told}
-use Rattle.session.specs.Download.{limit, endOf, blockLength, eraseNext, writeNext, nextAt, nextOf, download}
+use Rattle.session.specs.Download.{limit, endOf, eraseNext, writeNext, nextAt, nextOf, download}
 use Rattle.session.specs.Start.{setupOf}
 use Rattle.session.specs.declared.Wait.the-variants.{Pause, Poll}
 use Rattle.session.specs.declared.Error.the-variants.{NotAwaited, NotAsAtStart}
@@ -29,7 +29,6 @@ use Rattle.promises.specs.Calls.{Call, outcome, calls, Lends, AllLend, a
 use Rattle.plan.specs.Sent.{Begins}
 use Rattle.promises.proofs.Walk.{Claims, Ending, Holds, ClaimAt, Good, tell-good, run-good, either-end}
 use Rattle.promises.proofs.Lasting.{lasting, OfWish, lasting-holds, unit-waits}
-use Rattle.promises.proofs.Spends.{Any, any-fits, all-fit}
 use Rattle.promises.proofs.Started.{started}
 use Rattle.promises.proofs.Real.{For, same-calls, same-step, answers-told}
 
@@ -50,19 +49,17 @@ module _ (ps : List ℕ) (su : Setup) where
       (λ f. tt))
       (λ e. tt)
   wishes Writing pr =
-      picked Wish (ltb (pr .place) (su .length)) _ _
-      (λ e. picked Wish (ltb (pr .copied + blockLength su (pr .place)) limit) _ _ (λ g. tt) (λ g. tt))
-      (λ e. tt)
+      picked Wish (ltb (pr .accepted) (su .length)) _ _ (λ e. tt) (λ e. tt)
   wishes Closing pr = tt
 
-  holds : Holds (download ps) su Any unlent
+  holds : Holds (download ps) su unlent
   unfolding nextOf
   holds =
       lasting-holds _ _ _ _ (download ps) su
-      (record { waits = unit-waits su; ends = λ l h. either-end (download ps) su Any unlent l h tt tt; reset = λ v. tt; wishes = λ pr. wishes (pr .stage) pr; denies = λ e d. d })
+      (record { waits = unit-waits su; ends = λ l h. either-end (download ps) su unlent l h tt tt; reset = λ v. tt; wishes = λ pr. wishes (pr .stage) pr; denies = λ e d. d })
 
   -- such a session doesn't say 25
-  says-other : (p : Phase) (pr : Progress) (l : ℕ) (h : List Event) → ClaimAt (download ps) su Any unlent p pr l h → asksAt p ≡ SaysNo NotAsAtStart → ⊥
+  says-other : (p : Phase) (pr : Progress) (l : ℕ) (h : List Event) → ClaimAt (download ps) su unlent p pr l h → asksAt p ≡ SaysNo NotAsAtStart → ⊥
   says-other First pr l h v e = let z : _≡_ {A = ℕ} 0 1 = cc in omega arith
   says-other Clear pr l h v e = let z : _≡_ {A = ℕ} 0 1 = cc in omega arith
   says-other Second pr l h v e = let z : _≡_ {A = ℕ} 0 1 = cc in omega arith
@@ -83,26 +80,26 @@ module _ (io : DfuSansIo) (p : DfuProtocol) (fw ps : List ℕ) (budget : ℕ) (s
   abbrev su : Setup
   su = setupOf io p (length fw) (length ps)
 
-  start-good : Begins io p fw ps budget s → Good (download ps) su Any unlent (opened s)
+  start-good : Begins io p fw ps budget s → Good (download ps) su unlent (opened s)
   start-good b =
       let (l, e) = started io p fw ps budget s b in
       ⊎-elim
-      (λ q. subst (λ (x : Session). Good (download ps) su Any unlent (opened x)) (sym q) (record { setup = refl; holds = tt }))
-      (λ q. subst (λ (x : Session). Good (download ps) su Any unlent (opened x)) (sym q) (record { setup = refl; holds = tt }))
+      (λ q. subst (λ (x : Session). Good (download ps) su unlent (opened x)) (sym q) (record { setup = refl; holds = tt }))
+      (λ q. subst (λ (x : Session). Good (download ps) su unlent (opened x)) (sym q) (record { setup = refl; holds = tt }))
       e
 
   -- 25 IS NEVER GIVEN
   pub never-25 : Begins io p fw ps budget s → AllLend fw ps before → Lends fw ps c
       → (outcome ((calls (opened s) before) .session) c) .step .says ≡ SaysNo NotAsAtStart → ⊥
   never-25 b v u e =
-      let g : Good (download ps) su Any unlent (opened s) = start-good b in
+      let g : Good (download ps) su unlent (opened s) = start-good b in
       let same : calls (opened s) before ≡ after (download ps) (opened s) (answers before) =
       same-calls fw ps (opened s) before (subst (For fw ps) (sym (g .setup)) (refl, refl)) v in
-      let r : Good (download ps) su Any unlent (calls (opened s) before) =
-      subst (Good (download ps) su Any unlent) (sym same) (run-good (download ps) su Any unlent (holds ps su) (opened s) (answers before) (all-fit (download ps) s (answers before)) g) in
+      let r : Good (download ps) su unlent (calls (opened s) before) =
+      subst (Good (download ps) su unlent) (sym same) (run-good (download ps) su unlent (holds ps su) (opened s) (answers before) g) in
       let x : World = calls (opened s) before in
-      let t : Good (download ps) su Any unlent (tell (download ps) x (c .answer)) =
-      tell-good (download ps) su Any unlent (holds ps su) x (c .answer) (any-fits (x .session .phase) (c .answer)) r in
+      let t : Good (download ps) su unlent (tell (download ps) x (c .answer)) =
+      tell-good (download ps) su unlent (holds ps su) x (c .answer) r in
       let y : Step = told (download ps) (x .session) (c .answer) in
       let step : (outcome (x .session) c) .step ≡ y = same-step fw ps (x .session) c (subst (For fw ps) (sym (r .setup)) (refl, refl)) u in
       let q : y .says ≡ SaysNo NotAsAtStart = sym (ap (λ (z : Step). z .says) step) ∙ e in

@@ -13,7 +13,7 @@ use Rattle.get_status.specs.declared.GetStatusMessage.{GetStatusMessage}
 use Rattle.get_status.specs.declared.Reply.{Reply}
 use Rattle.get_status.specs.declared.Reply.the-variants.{ResponseTooShort as ShortReply, StatusError as BadStatus, Read}
 use Rattle.get_status.specs.declared.Met.{Met}
-use Rattle.session.specs.Machine.{Answer, count, reply, waited, wasReset, failed, Work, mk, refuse, issue, endPhase, proceed, waitAfter, firstReply, laterReply, reading, onFirst, onSecond, onMet, onPoll, asksAt, go, stay, toldAt, told}
+use Rattle.session.specs.Machine.{Answer, count, reply, waited, wasReset, failed, Work, mk, refuse, issue, endPhase, proceed, waitAfter, takenb, onCount, firstReply, laterReply, reading, onFirst, onSecond, onMet, onPoll, asksAt, go, stay, toldAt, told}
 use Rattle.session.specs.declared.Command.{Command}
 use Rattle.session.specs.declared.Command.the-variants.{Erase, SetAddress, Block, Empty}
 use Rattle.session.specs.declared.Request.{Request}
@@ -21,7 +21,7 @@ use Rattle.session.specs.declared.Request.the-variants.{GetStatus, ClearStatus,
 use Rattle.session.specs.declared.Wait.{Wait}
 use Rattle.session.specs.declared.Wait.the-variants.{Pause, Poll}
 use Rattle.session.specs.declared.Error.{Error}
-use Rattle.session.specs.declared.Error.the-variants.{InvalidState, MaximumTransferSizeExceeded, EraseLimitReached, NoSpaceLeft, ResponseTooShort, BudgetSpent, NotAwaited, NotAsAtStart, Failed, StatusError}
+use Rattle.session.specs.declared.Error.the-variants.{InvalidState, EraseLimitReached, NoSpaceLeft, ResponseTooShort, BudgetSpent, NotAwaited, NotAsAtStart, Failed, StatusError, WrongCount}
 use Rattle.session.specs.declared.End.{End}
 use Rattle.session.specs.declared.End.the-variants.{Stays, Reset}
 use Rattle.session.specs.declared.Phase.{Phase}
@@ -34,7 +34,7 @@ use Rattle.session.specs.declared.Todo.the-variants.{Send, End as Ends, Refuse}
 use Rattle.session.specs.declared.Ask.{Ask}
 use Rattle.session.specs.declared.Ask.the-variants.{Transfer}
 use Rattle.session.specs.declared.Step.{Step}
-use Rattle.promises.specs.Run.{Event, sends, hears, sentBy, shownBy, heardAt, World, tell, after, afterBy, Over, FitsAt, Fits, FitsBy}
+use Rattle.promises.specs.Run.{Event, sends, hears, sentBy, shownBy, heardAt, World, tell, after, afterBy, Over}
 
 -- what is claimed at each kind of phase: in the opening, where the work is asked next, in a wait before and after a look, at the end, after a refusal;
 -- and whatever happens
@@ -53,7 +53,6 @@ pub record Claims : Type 1 where
 -- the refusals that end a session: not 24 and 25, which leave it as it was
 abbrev pub Ending : Error → Type 0
 Ending (InvalidState got expected) = Unit
-Ending MaximumTransferSizeExceeded = Unit
 Ending EraseLimitReached = Unit
 Ending NoSpaceLeft = Unit
 Ending (ResponseTooShort got) = Unit
@@ -62,15 +61,16 @@ Ending NotAwaited = ⊥
 Ending NotAsAtStart = ⊥
 Ending Failed = Unit
 Ending (StatusError status) = Unit
+Ending (WrongCount n m) = Unit
 
-module _ (w : Work) (su : Setup) (F : Command → ℕ → Type 0) (c : Claims) where
+module _ (w : Work) (su : Setup) (c : Claims) where
   abbrev pub WaitingAt : Wait → Progress → ℕ → List Event → Type 0
   WaitingAt (Pause b t ms) pr l h = c .pausing b t pr l h
   WaitingAt (Poll b t) pr l h = c .looking b t pr l h
 
-  -- a command is on: whatever fitting count is told, its wait begins
+  -- a command is on: once it is taken, its wait begins
   abbrev pub SentAt : Command → Progress → ℕ → List Event → Type 0
-  SentAt d pr l h = c .always l h × ((n : ℕ) → F d n → WaitingAt (waitAfter su d) (w .took su pr d n) l h)
+  SentAt d pr l h = c .always l h × WaitingAt (waitAfter su d) (w .took su pr d) l h
 
   abbrev pub EndAt : Phase → ℕ → List Event → Type 0
   EndAt First l h = ⊥
@@ -205,89 +205,94 @@ module _ (w : Work) (su : Setup) (F : Command → ℕ → Type 0) (c : Claims) w
         P : Met → Type 0
         P x = Kept (hears (stateByte (m .state)) ∷ h) (go (onMet su pr l b t (w .next su pr) x))
 
+    -- a count: the wait begins, or the block was not taken whole
+    wait-kept : (pr : Progress) (l : ℕ) (h : List Event) (d : Command) → WaitingAt (waitAfter su d) pr l h → Kept h (go (mk su pr l (Waiting (waitAfter su d))))
+    wait-kept pr l h (Erase a) v = record { setup = refl; holds = v }
+    wait-kept pr l h (SetAddress a) v = record { setup = refl; holds = v }
+    wait-kept pr l h (Block b f m) v = record { setup = refl; holds = v }
+    wait-kept pr l h (Empty b) v = record { setup = refl; holds = v }
+
+    count-kept : (pr : Progress) (l : ℕ) (h : List Event) (d : Command) (n : ℕ) → SentAt d pr l h → Kept h (go (onCount su pr l d (w .took su pr d) n))
+    count-kept pr l h d n v =
+        picked (λ (s : Session). Kept h (go s)) (takenb d n) _ _ (λ e. wait-kept (w .took su pr d) l h d (v .1)) (λ e. refuse-kept pr l h _ tt (v .0))
+
     -- one told answer
-    pub kept : (p : Phase) (pr : Progress) (l : ℕ) (h : List Event) (a : Answer) → FitsAt F p a → ClaimAt p pr l h
+    pub kept : (p : Phase) (pr : Progress) (l : ℕ) (h : List Event) (a : Answer) → ClaimAt p pr l h
         → Kept (heardAt p a ++ h) (toldAt w su pr l p a)
-    kept First pr l h (count n) u v = stay-kept First pr l h _ v
-    kept First pr l h (reply bs) u v =
+    kept First pr l h (count n) v = stay-kept First pr l h _ v
+    kept First pr l h (reply bs) v =
         reading-kept pr l h (firstReply bs) (onFirst su pr l) (g .cutFirst pr l h v) (λ m. first-kept pr l h m v)
-    kept First pr l h waited u v = stay-kept First pr l h _ v
-    kept First pr l h wasReset u v = stay-kept First pr l h _ v
-    kept First pr l h failed u v = refuse-kept pr l h _ tt (g .cutFirst pr l h v)
-    kept Clear pr l h (count n) u v =
+    kept First pr l h waited v = stay-kept First pr l h _ v
+    kept First pr l h wasReset v = stay-kept First pr l h _ v
+    kept First pr l h failed v = refuse-kept pr l h _ tt (g .cutFirst pr l h v)
+    kept Clear pr l h (count n) v =
         issue-kept pr pr l h _ Second refl (g .cutClear pr l h v) (λ m e. g .clear pr m h (subst (λ (x : ℕ). c .atClear pr x h) e v))
-    kept Clear pr l h (reply bs) u v = stay-kept Clear pr l h _ v
-    kept Clear pr l h waited u v = stay-kept Clear pr l h _ v
-    kept Clear pr l h wasReset u v = stay-kept Clear pr l h _ v
-    kept Clear pr l h failed u v = refuse-kept pr l h _ tt (g .cutClear pr l h v)
-    kept Second pr l h (count n) u v = stay-kept Second pr l h _ v
-    kept Second pr l h (reply bs) u v =
+    kept Clear pr l h (reply bs) v = stay-kept Clear pr l h _ v
+    kept Clear pr l h waited v = stay-kept Clear pr l h _ v
+    kept Clear pr l h wasReset v = stay-kept Clear pr l h _ v
+    kept Clear pr l h failed v = refuse-kept pr l h _ tt (g .cutClear pr l h v)
+    kept Second pr l h (count n) v = stay-kept Second pr l h _ v
+    kept Second pr l h (reply bs) v =
         reading-kept pr l h (laterReply bs) (onSecond su pr l (w .next su pr)) (g .cutSecond pr l h v) (λ m. second-kept pr l h m v)
-    kept Second pr l h waited u v = stay-kept Second pr l h _ v
-    kept Second pr l h wasReset u v = stay-kept Second pr l h _ v
-    kept Second pr l h failed u v = refuse-kept pr l h _ tt (g .cutSecond pr l h v)
-    kept (Sent d) pr l h (count n) u v = by d (v .1 n u)
-      where
-        by : (e : Command) → WaitingAt (waitAfter su e) (w .took su pr d n) l h → Kept h (go (mk su (w .took su pr d n) l (Waiting (waitAfter su e))))
-        by (Erase a) v = record { setup = refl; holds = v }
-        by (SetAddress a) v = record { setup = refl; holds = v }
-        by (Block b f m) v = record { setup = refl; holds = v }
-        by (Empty b) v = record { setup = refl; holds = v }
-    kept (Sent d) pr l h (reply bs) u v = stay-kept (Sent d) pr l h _ v
-    kept (Sent d) pr l h waited u v = stay-kept (Sent d) pr l h _ v
-    kept (Sent d) pr l h wasReset u v = stay-kept (Sent d) pr l h _ v
-    kept (Sent d) pr l h failed u v = refuse-kept pr l h _ tt (v .0)
-    kept (Waiting (Pause b t ms)) pr l h (count n) u v = stay-kept (Waiting (Pause b t ms)) pr l h _ v
-    kept (Waiting (Pause b t ms)) pr l h (reply bs) u v = stay-kept (Waiting (Pause b t ms)) pr l h _ v
-    kept (Waiting (Pause b t ms)) pr l h waited u v =
+    kept Second pr l h waited v = stay-kept Second pr l h _ v
+    kept Second pr l h wasReset v = stay-kept Second pr l h _ v
+    kept Second pr l h failed v = refuse-kept pr l h _ tt (g .cutSecond pr l h v)
+    kept (Sent d) pr l h (count n) v = count-kept pr l h d n v
+    kept (Sent d) pr l h (reply bs) v = stay-kept (Sent d) pr l h _ v
+    kept (Sent d) pr l h waited v = stay-kept (Sent d) pr l h _ v
+    kept (Sent d) pr l h wasReset v = stay-kept (Sent d) pr l h _ v
+    kept (Sent d) pr l h failed v = refuse-kept pr l h _ tt (v .0)
+    kept (Waiting (Pause b t ms)) pr l h (count n) v = stay-kept (Waiting (Pause b t ms)) pr l h _ v
+    kept (Waiting (Pause b t ms)) pr l h (reply bs) v = stay-kept (Waiting (Pause b t ms)) pr l h _ v
+    kept (Waiting (Pause b t ms)) pr l h waited v =
         issue-kept pr pr l h _ (Waiting (Poll b t)) refl (g .cutPausing b t pr l h v)
         (λ m e. g .look b t pr m h (subst (λ (x : ℕ). c .pausing b t pr x h) e v))
-    kept (Waiting (Pause b t ms)) pr l h wasReset u v = stay-kept (Waiting (Pause b t ms)) pr l h _ v
-    kept (Waiting (Pause b t ms)) pr l h failed u v = stay-kept (Waiting (Pause b t ms)) pr l h _ v
-    kept (Waiting (Poll b t)) pr l h (count n) u v = stay-kept (Waiting (Poll b t)) pr l h _ v
-    kept (Waiting (Poll b t)) pr l h (reply bs) u v =
+    kept (Waiting (Pause b t ms)) pr l h wasReset v = stay-kept (Waiting (Pause b t ms)) pr l h _ v
+    kept (Waiting (Pause b t ms)) pr l h failed v = stay-kept (Waiting (Pause b t ms)) pr l h _ v
+    kept (Waiting (Poll b t)) pr l h (count n) v = stay-kept (Waiting (Poll b t)) pr l h _ v
+    kept (Waiting (Poll b t)) pr l h (reply bs) v =
         reading-kept pr l h (laterReply bs) (onPoll su pr l b t (w .next su pr)) (g .cutLooking b t pr l h v) (λ m. poll-kept b t pr l h m v)
-    kept (Waiting (Poll b t)) pr l h waited u v = stay-kept (Waiting (Poll b t)) pr l h _ v
-    kept (Waiting (Poll b t)) pr l h wasReset u v = stay-kept (Waiting (Poll b t)) pr l h _ v
-    kept (Waiting (Poll b t)) pr l h failed u v = refuse-kept pr l h _ tt (g .cutLooking b t pr l h v)
-    kept Resetting pr l h (count n) u v = stay-kept Resetting pr l h _ v
-    kept Resetting pr l h (reply bs) u v = stay-kept Resetting pr l h _ v
-    kept Resetting pr l h waited u v = stay-kept Resetting pr l h _ v
-    kept Resetting pr l h wasReset u v = record { setup = refl; holds = g .reset l h v }
-    kept Resetting pr l h failed u v = refuse-kept pr l h _ tt (g .cutResetting l h v)
-    kept (Finished e) pr l h a u v = record { setup = refl; holds = v }
-    kept (Refused e) pr l h a u v = record { setup = refl; holds = v }
+    kept (Waiting (Poll b t)) pr l h waited v = stay-kept (Waiting (Poll b t)) pr l h _ v
+    kept (Waiting (Poll b t)) pr l h wasReset v = stay-kept (Waiting (Poll b t)) pr l h _ v
+    kept (Waiting (Poll b t)) pr l h failed v = refuse-kept pr l h _ tt (g .cutLooking b t pr l h v)
+    kept Resetting pr l h (count n) v = stay-kept Resetting pr l h _ v
+    kept Resetting pr l h (reply bs) v = stay-kept Resetting pr l h _ v
+    kept Resetting pr l h waited v = stay-kept Resetting pr l h _ v
+    kept Resetting pr l h wasReset v = record { setup = refl; holds = g .reset l h v }
+    kept Resetting pr l h failed v = refuse-kept pr l h _ tt (g .cutResetting l h v)
+    kept (Finished e) pr l h a v = record { setup = refl; holds = v }
+    kept (Refused e) pr l h a v = record { setup = refl; holds = v }
 
   -- a world in which the claim of its phase holds
   pub record Good (x : World) : Type 0 where
     pub setup : x .session .setup ≡ su
     pub holds : ClaimAt (x .session .phase) (x .session .progress) (x .session .left) (x .past)
 
-  pub tell-good : Holds → (x : World) (a : Answer) → FitsAt F (x .session .phase) a → Good x → Good (tell w x a)
+  pub tell-good : Holds → (x : World) (a : Answer) → Good x → Good (tell w x a)
   unfolding told
-  tell-good g x a u v =
+  tell-good g x a v =
       let k : Kept (heardAt (x .session .phase) a ++ x .past) (toldAt w (x .session .setup) (x .session .progress) (x .session .left) (x .session .phase) a) =
       subst
       (λ (s : Setup). Kept (heardAt (x .session .phase) a ++ x .past) (toldAt w s (x .session .progress) (x .session .left) (x .session .phase) a))
       (sym (v .setup))
-      (kept g (x .session .phase) (x .session .progress) (x .session .left) (x .past) a u (v .holds)) in
+      (kept g (x .session .phase) (x .session .progress) (x .session .left) (x .past) a (v .holds)) in
       record { setup = k .setup; holds = k .holds }
 
   -- KEPT BY EVERY RUN
-  pub run-good : Holds → (x : World) (more : List Answer) → Fits F w (x .session) more → Good x → Good (after w x more)
-  unfolding afterBy FitsBy
-  run-good g x [] u v = v
-  run-good g x (a ∷ more) u v = run-good g (tell w x a) more (u .1) (tell-good g x a (u .0) v)
+  pub run-good : Holds → (x : World) (more : List Answer) → Good x → Good (after w x more)
+  unfolding afterBy
+  run-good g x [] v = v
+  run-good g x (a ∷ more) v = run-good g (tell w x a) more (tell-good g x a v)
 
-  pub run-always : Holds → (x : World) (more : List Answer) → Fits F w (x .session) more → Good x
+  pub run-always : Holds → (x : World) (more : List Answer) → Good x
       → c .always ((after w x more) .session .left) ((after w x more) .past)
-  run-always g x more u v =
+  run-always g x more v =
       cut g ((after w x more) .session .phase) ((after w x more) .session .progress) ((after w x more) .session .left) ((after w x more) .past)
-      ((run-good g x more u v) .holds)
+      ((run-good g x more v) .holds)
 
-  pub run-over : Holds → (x : World) (more : List Answer) → Fits F w (x .session) more → Good x → Over ((after w x more) .session .phase)
+  pub run-over : Holds → (x : World) (more : List Answer) → Good x → Over ((after w x more) .session .phase)
       → (e : End) × ((after w x more) .session .phase ≡ Finished e) × c .finished e ((after w x more) .session .left) ((after w x more) .past)
-  run-over g x more u v o = by ((after w x more) .session .phase) ((run-good g x more u v) .holds) o
+  run-over g x more v o = by ((after w x more) .session .phase) ((run-good g x more v) .holds) o
     where
       by : (p : Phase) → ClaimAt p ((after w x more) .session .progress) ((after w x more) .session .left) ((after w x more) .past) → Over p
           → (e : End) × (p ≡ Finished e) × c .finished e ((after w x more) .session .left) ((after w x more) .past)

@@ -24,12 +24,11 @@ use Rattle.session.specs.declared.Session.{Session}
 use Rattle.session.specs.declared.Todo.{Todo}
 use Rattle.session.specs.declared.Todo.the-variants.{Send, End as Ends, Refuse}
 use Rattle.session.specs.declared.start.DfuSansIo.{DfuSansIo}
-use Rattle.plan.specs.Answers.{wholeOf}
-use Rattle.promises.specs.Run.{Event, sends, hears, opened, after, inTime, Over, Fits, Full}
+use Rattle.promises.specs.Run.{Event, sends, hears, opened, after, inTime, Over}
 use Rattle.plan.specs.Sent.{onWire, Begins}
 use Rattle.promises.specs.Whole.{opening, busyAfter, targetAfter, looks, Round, roundOf, rounds, requestOf, Listed}
 use Rattle.promises.proofs.Walk.{Claims, Holds, Wished, WaitingAt, Good, run-over, either-end}
-use Rattle.promises.proofs.Wanted.{left, Heads, heads, full, wanted, fresh-wanted}
+use Rattle.promises.proofs.Wanted.{left, Heads, heads, wanted, fresh-wanted}
 use Rattle.promises.proofs.Onwire.{wanted-plan}
 use Rattle.promises.proofs.Started.{begun}
 
@@ -116,7 +115,7 @@ told ps su all = record {
 module _ (ps : List ℕ) (su : Setup) (all : List Command) where
   -- a request is sent, and its wait begins
   begins-round : (c : Command) (h : List Event) (pr : Progress) (l : ℕ) → Sofar (su .tolerant) all (sends (Commands c) ∷ h) (sends (Commands c) ∷ []) (c ∷ left ps su pr)
-      → WaitingAt (download ps) su Full (told ps su all) (waitAfter su c) pr l (sends (Commands c) ∷ h)
+      → WaitingAt (download ps) su (told ps su all) (waitAfter su c) pr l (sends (Commands c) ∷ h)
   unfolding looks
   begins-round (Erase a) h pr l v = record { c = Erase a; n = 0; busy = refl; target = refl; sofar = v }
   begins-round (SetAddress a) h pr l v = record { c = SetAddress a; n = 0; busy = refl; target = refl; sofar = v }
@@ -128,19 +127,15 @@ module _ (ps : List ℕ) (su : Setup) (all : List Command) where
       by false = refl
 
   wished : (pr : Progress) (l : ℕ) (h : List Event) (t : Todo) → Heads (download ps) (left ps su) su (left ps su pr) t → Sofar (su .tolerant) all h [] (left ps su pr)
-      → Wished (download ps) su Full (told ps su all) l h t
+      → Wished (download ps) su (told ps su all) l h t
   wished pr l h (Send c then) e v =
-      let on : Sofar (su .tolerant) all (sends (Commands c) ∷ h) (sends (Commands c) ∷ []) (c ∷ left ps su (tookOf su then c (wholeOf c))) =
+      let on : Sofar (su .tolerant) all (sends (Commands c) ∷ h) (sends (Commands c) ∷ []) (c ∷ left ps su (tookOf su then c)) =
       subst (λ (x : List Command). Sofar (su .tolerant) all (sends (Commands c) ∷ h) (sends (Commands c) ∷ []) x) (sym e)
       (append-more (su .tolerant) all h [] (sends (Commands c)) (left ps su pr) v) in
-      λ m z. (
-        tt,
-        λ n u. begins-round c h (tookOf su then c n) m
-            (subst (λ (x : Progress). Sofar (su .tolerant) all (sends (Commands c) ∷ h) (sends (Commands c) ∷ []) (c ∷ left ps su x)) (sym (full su then c n u)) on),
-      )
+      λ m z. (tt, begins-round c h (tookOf su then c) m on)
   wished pr l h Ends e v =
       let all-done : Sofar (su .tolerant) all h [] [] = subst (λ (x : List Command). Sofar (su .tolerant) all h [] x) (sym e) v in
-      either-end (download ps) su Full (told ps su all) l h all-done all-done
+      either-end (download ps) su (told ps su all) l h all-done all-done
   wished pr l h (Refuse x) e v = tt
 
   -- one more busy reply, or the target
@@ -198,7 +193,7 @@ module _ (ps : List ℕ) (su : Setup) (all : List Command) where
     list = v .list;
   }
 
-  holds : 0 < su .size → Holds (download ps) su Full (told ps su all)
+  holds : 0 < su .size → Holds (download ps) su (told ps su all)
   holds k = record {
     first = first-told;
     clear = clear-told;
@@ -221,7 +216,7 @@ module _ (ps : List ℕ) (su : Setup) (all : List Command) where
     hear = λ l h st v. tt;
   }
 
-fresh-good : (ps : List ℕ) (su : Setup) (l : ℕ) → 0 < su .size → Good (download ps) su Full (told ps su (wanted su ps)) (opened (mk su (fresh su) l First))
+fresh-good : (ps : List ℕ) (su : Setup) (l : ℕ) → 0 < su .size → Good (download ps) su (told ps su (wanted su ps)) (opened (mk su (fresh su) l First))
 unfolding inTime
 fresh-good ps su l k = record { setup = refl; holds = (refl, fresh-wanted ps su k) }
 
@@ -230,19 +225,18 @@ module _ (io : DfuSansIo) (p : DfuProtocol) (fw ps : List ℕ) (budget : ℕ) (s
   su = setupOf io p (length fw) (length ps)
 
   -- THE WHOLE LIST OF A FINISHED RUN
-  pub finished-lists : 0 < length fw → 0 < io .descriptor .«transfer_size» → Begins io p fw ps budget s → Fits Full (download ps) s more
+  pub finished-lists : 0 < length fw → 0 < io .descriptor .«transfer_size» → Begins io p fw ps budget s
       → Over ((after (download ps) (opened s) more) .session .phase) → Listed io p fw ps ((after (download ps) (opened s) more) .past)
   finished-lists h k b =
       let (l, z, e) = begun io p fw ps budget s h k b in
       subst
       (λ (x : Session).
-      Fits Full (download ps) x more
-      → Over ((after (download ps) (opened x) more) .session .phase)
+      Over ((after (download ps) (opened x) more) .session .phase)
       → Listed io p fw ps ((after (download ps) (opened x) more) .past))
       (sym e)
-      (λ u o.
+      (λ o.
       let v : Sofar (su .tolerant) (wanted su ps) ((after (download ps) (opened (mk su (fresh su) l First)) more) .past) [] [] =
-      (run-over (download ps) su Full (told ps su (wanted su ps)) (holds ps su (wanted su ps) k) (opened (mk su (fresh su) l First)) more u (fresh-good ps su l k) o) .2 in
+      (run-over (download ps) su (told ps su (wanted su ps)) (holds ps su (wanted su ps) k) (opened (mk su (fresh su) l First)) more (fresh-good ps su l k) o) .2 in
       let q : map requestOf (v .rs) ≡ wanted su ps = sym (append-nil (map requestOf (v .rs))) ∙ v .list in
       record {
         shown = v .st;

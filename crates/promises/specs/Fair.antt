@@ -12,8 +12,8 @@ use Rattle.get_status.specs.declared.GetStatusMessage.{GetStatusMessage}
 use Rattle.memory_layout.specs.Layout.{maxPages}
 use Rattle.protocol.specs.declared.DfuProtocol.{DfuProtocol}
 use Rattle.session.specs.Machine.{Answer, count, reply, waited, wasReset, failed, Work, told}
-use Rattle.session.specs.Download.{limit, covering}
-use Rattle.session.specs.Start.{dfuseb, targetOf}
+use Rattle.session.specs.Download.{limit, blockCount, covering}
+use Rattle.session.specs.Start.{dfuseb, targetOf, maxBlocks}
 use Rattle.session.specs.declared.Wait.the-variants.{Pause, Poll}
 use Rattle.session.specs.declared.End.{End}
 use Rattle.session.specs.declared.End.the-variants.{Stays, Reset}
@@ -25,7 +25,7 @@ use Rattle.session.specs.declared.Ask.{Ask}
 use Rattle.session.specs.declared.Ask.the-variants.{Transfer, Wait as WaitFor, Reset as ResetBus, Finished as HasFinished, Refused as SaysNo}
 use Rattle.session.specs.declared.start.DfuSansIo.{DfuSansIo}
 use Rattle.plan.specs.Plan.{sum, commands}
-use Rattle.promises.specs.Run.{Full}
+use Rattle.promises.specs.Run.{Taken}
 
 -- whether an answer is of the kind that is awaited; a failure is, but in a wait
 abbrev pub awaitsReply : Answer → Bool
@@ -108,12 +108,12 @@ FineReset waited = ⊥
 FineReset wasReset = Unit
 FineReset failed = ⊥
 
--- the awaited answer: a full write; status 0 in every reply but the first; the second state idle; in a wait the target, or busy while j busy replies are still allowed
+-- the awaited answer: a block's count is its length; status 0 in every reply but the first; the second state idle; in a wait the target, or busy while j busy replies are still allowed
 abbrev pub Fine : ℕ → Phase → Answer → Type 0
 Fine j First a = FineReply (λ m. Unit) a
 Fine j Clear a = FineCount (λ n. Unit) a
 Fine j Second a = FineReply (Okay (λ st. st ≡ 2)) a
-Fine j (Sent c) a = FineCount (λ n. Full c n) a
+Fine j (Sent c) a = FineCount (λ n. Taken c n) a
 Fine j (Waiting (Pause b t ms)) a = FineWait a
 Fine j (Waiting (Poll b t)) a = FineReply (Okay (λ st. (st ≡ stateByte t) ⊎ ((st ≡ stateByte b) × (0 < j)))) a
 Fine j Resetting a = FineReset a
@@ -155,12 +155,13 @@ AllYesBy f s (a ∷ more) = Yes ((f s a) .says) × AllYesBy f ((f s a) .next) mo
 abbrev pub AllYes : Work → Session → List Answer → Type 0
 AllYes w s more = AllYesBy (told w) s more
 
--- firmware not empty and within start's limits (1, 22), a transfer size above zero; DfuSe's covering pages exist and end below 2^32
+-- firmware not empty and within start's limits (1, 22, 29), a transfer size above zero; DfuSe's covering pages exist and end below 2^32
 pub record Ready (io : DfuSansIo) (p : DfuProtocol) (fw ps : List ℕ) : Type 0 where
   pub some : 0 < length fw
   pub short : length fw ≤ 4294967295
   pub sized : 0 < io .descriptor .«transfer_size»
   pub few : dfuseb p ≡ true → length ps ≤ maxPages
+  pub numbered : dfuseb p ≡ true → blockCount (length fw) (io .descriptor .«transfer_size») ≤ maxBlocks
   pub covered : dfuseb p ≡ true → length fw ≤ sum (covering (length fw) ps)
   pub below : dfuseb p ≡ true → targetOf p (io .«override_address») + sum (covering (length fw) ps) < limit
 

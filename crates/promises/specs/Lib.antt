@@ -4,6 +4,7 @@ pub mod Calls
 pub mod Whole
 pub mod Fair
 pub mod Believed
+pub mod Limits
 pub mod Finish
 pub mod Machines
 pub mod Samples

@@ -6,10 +6,10 @@ use lib.Dec.{ltb}
 use lib.ListN.{length}
 use Rattle.ground.specs.Pick.{pick}
 use Rattle.protocol.specs.declared.DfuProtocol.{DfuProtocol}
-use Rattle.session.specs.Machine.{Answer, count, reply, waited, wasReset, failed, mk, proceed, go, stay, told}
+use Rattle.session.specs.Machine.{Answer, count, reply, waited, wasReset, failed, wholeOf, mk, proceed, go, stay, told}
 use Rattle.session.specs.Download.{download, eraseNext, nextOf, tookOf}
 use Rattle.session.specs.Start.{beginOf}
-use Rattle.session.specs.declared.Command.the-variants.{SetAddress}
+use Rattle.session.specs.declared.Command.the-variants.{Erase, SetAddress, Block, Empty}
 use Rattle.session.specs.declared.Request.the-variants.{GetStatus}
 use Rattle.session.specs.declared.Error.the-variants.{NotAwaited}
 use Rattle.session.specs.declared.End.the-variants.{Stays}
@@ -21,7 +21,7 @@ use Rattle.session.specs.declared.Setup.{Setup}
 use Rattle.session.specs.declared.Progress.{Progress}
 use Rattle.session.specs.declared.Session.{Session}
 use Rattle.session.specs.declared.Todo.{Todo}
-use Rattle.session.specs.declared.Todo.the-variants.{Send}
+use Rattle.session.specs.declared.Todo.the-variants.{Send, End as Ends, Refuse}
 use Rattle.session.specs.declared.Ask.the-variants.{Transfer}
 use Rattle.session.specs.declared.Step.{Step}
 use Rattle.session.specs.declared.start.DfuSansIo.{DfuSansIo}
@@ -29,11 +29,12 @@ use Rattle.session.specs.declared.start.StartError.the-variants.{NoSpaceLeft}
 use Rattle.session.specs.declared.start.Started.{Started}
 use Rattle.session.specs.declared.start.Started.the-variants.{Session as Begun, Refused as Unbegun}
 use Rattle.plan.specs.Plan.{Dnload}
-use Rattle.promises.specs.Run.{opened, afterBy, transfers, commanded, cleared, Over, FitsBy, Full}
+use Rattle.promises.specs.Run.{opened, afterBy, transfers, commanded, cleared, Over}
 use Rattle.plan.specs.Sent.{onWire, planOf}
 use Rattle.promises.specs.Whole.{Listed}
 use Rattle.promises.specs.Fair.{heededBy, FairBy, Ready, requestsOf, bound}
 use Rattle.promises.specs.Finish.{FinishesBy}
+use Rattle.promises.specs.Believed.{WholeAt, AllAtBy}
 
 -- how it starts, from start's own numbers, and how it is told an answer, with the pages that are lent
 pub record Machine : Type 0 where
@@ -46,25 +47,25 @@ ours = record { start = beginOf; told = λ ps s a. told (download ps) s a }
 abbrev pub Began : Machine → DfuSansIo → DfuProtocol → List ℕ → List ℕ → ℕ → Session → Type 0
 Began m io p fw ps budget s = m .start io p (length fw) (length ps) budget ≡ Begun s
 
--- 2: a finished run with full writes has sent the plan, and every run a leading part of it
+-- 2: a finished run has sent the plan, and every run a leading part of it
 abbrev pub SendsThePlan : Machine → Type 0
 SendsThePlan m =
     (io : DfuSansIo) (p : DfuProtocol) (fw ps : List ℕ) (budget : ℕ) (s : Session) (more : List Answer)
-    → 0 < length fw → 0 < io .descriptor .«transfer_size» → Began m io p fw ps budget s → FitsBy Full (m .told ps) s more
+    → 0 < length fw → 0 < io .descriptor .«transfer_size» → Began m io p fw ps budget s
     → Over ((afterBy (m .told ps) (opened s) more) .session .phase)
     → map (onWire fw) (commanded ((afterBy (m .told ps) (opened s) more) .past)) ≡ planOf io p fw ps
 
 abbrev pub LeadsThePlan : Machine → Type 0
 LeadsThePlan m =
     (io : DfuSansIo) (p : DfuProtocol) (fw ps : List ℕ) (budget : ℕ) (s : Session) (more : List Answer)
-    → 0 < length fw → 0 < io .descriptor .«transfer_size» → Began m io p fw ps budget s → FitsBy Full (m .told ps) s more
+    → 0 < length fw → 0 < io .descriptor .«transfer_size» → Began m io p fw ps budget s
     → (rest : List Dnload) × (map (onWire fw) (commanded ((afterBy (m .told ps) (opened s) more) .past)) ++ rest ≡ planOf io p fw ps)
 
 -- 3: all that happens in a finished run
 abbrev pub ListsAll : Machine → Type 0
 ListsAll m =
     (io : DfuSansIo) (p : DfuProtocol) (fw ps : List ℕ) (budget : ℕ) (s : Session) (more : List Answer)
-    → 0 < length fw → 0 < io .descriptor .«transfer_size» → Began m io p fw ps budget s → FitsBy Full (m .told ps) s more
+    → 0 < length fw → 0 < io .descriptor .«transfer_size» → Began m io p fw ps budget s
     → Over ((afterBy (m .told ps) (opened s) more) .session .phase) → Listed io p fw ps ((afterBy (m .told ps) (opened s) more) .past)
 
 -- 4: it starts, and with a fair device and the budget it finishes
@@ -89,6 +90,12 @@ Spends m =
     (io : DfuSansIo) (p : DfuProtocol) (fw ps : List ℕ) (budget : ℕ) (s : Session) (more : List Answer) → Began m io p fw ps budget s
     → (afterBy (m .told ps) (opened s) more) .session .left + length (transfers ((afterBy (m .told ps) (opened s) more) .past)) ≡ budget
 
+-- 7: every block of a finished run was taken whole
+abbrev pub WholeBlocks : Machine → Type 0
+WholeBlocks m =
+    (io : DfuSansIo) (p : DfuProtocol) (fw ps : List ℕ) (budget : ℕ) (s : Session) (more : List Answer) → Began m io p fw ps budget s
+    → Over ((afterBy (m .told ps) (opened s) more) .session .phase) → AllAtBy WholeAt (m .told ps) s more
+
 -- always refusing
 abbrev pub refusing : Machine
 refusing = record { start = λ io p n pages budget. Unbegun NoSpaceLeft; told = ours .told }
@@ -106,11 +113,11 @@ abbrev pub hasty : Machine
 hasty = record { start = beginOf; told = λ ps s a. go (mk (s .setup) (s .progress) (s .left) (Finished Stays)) }
 
 -- blocks without asking for status: a count leads to the next request at once
-abbrev pub onCount : List ℕ → Setup → Progress → ℕ → Progress → Session
-onCount ps su pr l then = proceed su then l (nextOf ps su then)
+abbrev pub atOnce : List ℕ → Setup → ℕ → Progress → Session
+atOnce ps su l then = proceed su then l (nextOf ps su then)
 
 abbrev pub blindAt : List ℕ → Session → Phase → Answer → Step
-blindAt ps s (Sent c) (count n) = go (onCount ps (s .setup) (s .progress) (s .left) (tookOf (s .setup) (s .progress) c n))
+blindAt ps s (Sent c) (count n) = go (atOnce ps (s .setup) (s .left) (tookOf (s .setup) (s .progress) c))
 blindAt ps s (Sent c) (reply bs) = told (download ps) s (reply bs)
 blindAt ps s (Sent c) waited = told (download ps) s waited
 blindAt ps s (Sent c) wasReset = told (download ps) s wasReset
@@ -126,6 +133,24 @@ blindAt ps s (Refused e) a = told (download ps) s a
 abbrev pub blind : Machine
 blind = record { start = beginOf; told = λ ps s a. blindAt ps s (s .phase) a }
 
+-- any count taken for a whole block
+abbrev pub credulousAt : List ℕ → Session → Phase → Answer → Step
+credulousAt ps s (Sent c) (count n) = told (download ps) s (count (wholeOf c))
+credulousAt ps s (Sent c) (reply bs) = told (download ps) s (reply bs)
+credulousAt ps s (Sent c) waited = told (download ps) s waited
+credulousAt ps s (Sent c) wasReset = told (download ps) s wasReset
+credulousAt ps s (Sent c) failed = told (download ps) s failed
+credulousAt ps s First a = told (download ps) s a
+credulousAt ps s Clear a = told (download ps) s a
+credulousAt ps s Second a = told (download ps) s a
+credulousAt ps s (Waiting x) a = told (download ps) s a
+credulousAt ps s Resetting a = told (download ps) s a
+credulousAt ps s (Finished e) a = told (download ps) s a
+credulousAt ps s (Refused e) a = told (download ps) s a
+
+abbrev pub credulous : Machine
+credulous = record { start = beginOf; told = λ ps s a. credulousAt ps s (s .phase) a }
+
 -- an invented spend: nothing is ever left
 abbrev pub spentAll : Step → Step
 spentAll x = record { next = mk (x .next .setup) (x .next .progress) 0 (x .next .phase); says = x .says }
@@ -133,27 +158,17 @@ spentAll x = record { next = mk (x .next .setup) (x .next .progress) 0 (x .next 
 abbrev pub inventive : Machine
 inventive = record { start = beginOf; told = λ ps s a. spentAll (told (download ps) s a) }
 
--- the first number 3
-abbrev pub fromThree : Started → Started
-fromThree (Begun s) =
-    Begun
-    (record {
-      setup = s .setup;
-      progress = record {
-        stage = s .progress .stage;
-        erased = s .progress .erased;
-        page = s .progress .page;
-        number = 3;
-        place = s .progress .place;
-        copied = s .progress .copied;
-      };
-      left = s .left;
-      phase = s .phase;
-    })
-fromThree (Unbegun e) = Unbegun e
+-- the first number 3: every block's is one up
+abbrev pub oneUp : Todo → Todo
+oneUp (Send (Erase a) then) = Send (Erase a) then
+oneUp (Send (SetAddress a) then) = Send (SetAddress a) then
+oneUp (Send (Block n f m) then) = Send (Block (n + 1) f m) then
+oneUp (Send (Empty n) then) = Send (Empty (n + 1)) then
+oneUp Ends = Ends
+oneUp (Refuse e) = Refuse e
 
 abbrev pub numberedFromThree : Machine
-numberedFromThree = record { start = λ io p n pages budget. fromThree (beginOf io p n pages budget); told = ours .told }
+numberedFromThree = record { start = beginOf; told = λ ps s a. told (record { next = λ su pr. oneUp (nextOf ps su pr); took = tookOf }) s a }
 
 -- one page more: the erases go on to one byte past the target
 abbrev pub longer : Setup → Setup
@@ -184,9 +199,7 @@ marked pr = record {
   stage = Writing;
   erased = pr .erased;
   page = 1000;
-  number = pr .number;
-  place = pr .place;
-  copied = pr .copied;
+  accepted = pr .accepted;
 }
 
 abbrev pub twiceAt : Stage → List ℕ → Setup → Progress → Todo

@@ -1,13 +1,14 @@
 -- A run: a session and its past, told one answer after the other.
-use Prim.Native.Nat.{ℕ, suc, _≤_}
+use Prim.Native.Nat.{ℕ, suc}
+use mathlib.Core.Path.{_≡_}
 use mathlib.Core.List.{List, [], _∷_, _++_}
 use Rattle.get_status.specs.Names.{stateByte}
 use Rattle.get_status.specs.declared.Reply.{Reply}
 use Rattle.get_status.specs.declared.Reply.the-variants.{ResponseTooShort as ShortReply, StatusError as BadStatus, Read}
-use Rattle.plan.specs.Answers.{wholeOf}
 use Rattle.session.specs.Machine.{Answer, count, reply, waited, wasReset, failed, Work, firstReply, laterReply, asksAt, told}
 use Rattle.session.specs.declared.Session.{Session}
 use Rattle.session.specs.declared.Command.{Command}
+use Rattle.session.specs.declared.Command.the-variants.{Erase, SetAddress, Block, Empty}
 use Rattle.session.specs.declared.Request.{Request}
 use Rattle.session.specs.declared.Request.the-variants.{GetStatus, ClearStatus, Command as Commands}
 use Rattle.session.specs.declared.Wait.the-variants.{Pause, Poll}
@@ -135,28 +136,9 @@ Over Resetting = ⊥
 Over (Finished e) = Unit
 Over (Refused e) = ⊥
 
--- a count that fits the command it is told for, all along a run
-abbrev pub FitsAt : (Command → ℕ → Type 0) → Phase → Answer → Type 0
-FitsAt F First a = Unit
-FitsAt F Clear a = Unit
-FitsAt F Second a = Unit
-FitsAt F (Sent c) (count n) = F c n
-FitsAt F (Sent c) (reply bs) = Unit
-FitsAt F (Sent c) waited = Unit
-FitsAt F (Sent c) wasReset = Unit
-FitsAt F (Sent c) failed = Unit
-FitsAt F (Waiting x) a = Unit
-FitsAt F Resetting a = Unit
-FitsAt F (Finished e) a = Unit
-FitsAt F (Refused e) a = Unit
-
-unfoldable pub FitsBy : (Command → ℕ → Type 0) → (Session → Answer → Step) → Session → List Answer → Type 0
-FitsBy F f s [] = Unit
-FitsBy F f s (a ∷ more) = FitsAt F (s .phase) a × FitsBy F f ((f s a) .next) more
-
-abbrev pub Fits : (Command → ℕ → Type 0) → Work → Session → List Answer → Type 0
-Fits F w s more = FitsBy F (told w) s more
-
--- a full write: the count reaches the block's length
-abbrev pub Full : Command → ℕ → Type 0
-Full c n = wholeOf c ≤ n
+-- a command that was taken whole: a block's count is its length, any other isn't looked at
+abbrev pub Taken : Command → ℕ → Type 0
+Taken (Erase a) n = Unit
+Taken (SetAddress a) n = Unit
+Taken (Block b f m) n = n ≡ m
+Taken (Empty b) n = Unit

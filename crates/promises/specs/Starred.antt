@@ -97,6 +97,9 @@ at a n ps b = record { protocol = Dfuse a; size = 2048; tolerant = false; detach
 abbrev pub plain : ℕ → ℕ → ℕ → Setting
 plain size n b = record { protocol = Dfu; size = size; tolerant = false; detach = false; length = n; pages = []; budget = b }
 
+abbrev pub dfuse : ℕ → ℕ → ℕ → Setting
+dfuse size n b = record { protocol = Dfuse 0; size = size; tolerant = false; detach = false; length = n; pages = []; budget = b }
+
 abbrev pub tolerant : Setting
 tolerant = record { protocol = Dfu; size = 8; tolerant = true; detach = false; length = 4; pages = []; budget = 64 }
 
@@ -150,8 +153,9 @@ cases =
     (runs (GetStatus ∷ GetStatus ∷ Sends (Erase 0) ∷ GetStatus ∷ Sends (Erase 1024) ∷ GetStatus ∷ Sends (SetAddress 0) ∷ []) (says 0 []))
     ∷ sessionRun (at 0 2049 (1024 ∷ 1024 ∷ []) 64) (idle (write 5 5 (write 5 5 [])))
     (runs (GetStatus ∷ GetStatus ∷ Sends (Erase 0) ∷ GetStatus ∷ Sends (Erase 1024) ∷ GetStatus ∷ []) (says 5 []))
-    ∷ sessionRun (plain 8 10 64) (idle (write 5 5 (write 5 5 [])))
-    (runs (GetStatus ∷ GetStatus ∷ Sends (Block 0 0 8) ∷ GetStatus ∷ Sends (Block 1 5 5) ∷ GetStatus ∷ Sends (Empty 2) ∷ []) (says 0 []))
+    ∷ sessionRun (plain 8 10 64) (idle (write 5 5 (write 5 5 []))) (runs (GetStatus ∷ GetStatus ∷ Sends (Block 0 0 8) ∷ []) (says 28 (5 ∷ 8 ∷ [])))
+    ∷ sessionRun (dfuse 8 524264 64) [] (runs (GetStatus ∷ []) (says 0 []))
+    ∷ sessionRun (dfuse 8 524280 64) [] (unbegun (says 29 []))
     ∷ sessionRun (plain 8 10 64) (failing 10 ∷ counts 0 ∷ shows 2 ∷ counts 8 ∷ waited ∷ failing 5 ∷ [])
     (runs (GetStatus ∷ ClearStatus ∷ GetStatus ∷ Sends (Block 0 0 8) ∷ GetStatus ∷ []) (says 27 (3 ∷ [])))
     ∷ sessionRun (whole 14) wholeAnswers (runs (wholeTransfers (GetStatus ∷ [])) (says 0 []))
@@ -159,13 +163,13 @@ cases =
     ∷ sessionEnd tolerant (idle (write 4 5 (write 0 2 [])))
     (ends (GetStatus ∷ GetStatus ∷ Sends (Block 0 0 4) ∷ GetStatus ∷ Sends (Empty 1) ∷ GetStatus ∷ [])
     (mk (record { dfuse = false; address = 0; length = 4; pages = 0; size = 8; tolerant = true; detach = false })
-    (record { stage = Ending; erased = 0; page = 0; number = 2; place = 4; copied = 4 })
+    (record { stage = Ending; erased = 0; page = 0; accepted = 4 })
     58
     (Finished Stays)))
     ∷ sessionEnd (at 16 4 (8 ∷ []) 2) (idle [])
     (ends (GetStatus ∷ GetStatus ∷ [])
     (mk (record { dfuse = true; address = 16; length = 4; pages = 1; size = 2048; tolerant = false; detach = false })
-    (record { stage = Erasing; erased = 16; page = 0; number = 2; place = 0; copied = 16 })
+    (record { stage = Erasing; erased = 16; page = 0; accepted = 0 })
     0
     (Ended BudgetSpent)))
     ∷ []

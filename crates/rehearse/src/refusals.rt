@@ -63,6 +63,10 @@ pub fn start(error: StartError) {
         StartError::OutOfCapabilities => refused(1, b"the firmware has 2^32 bytes or more"),
         StartError::TooManyPages => refused(22, b"there are more than 4096 pages"),
         StartError::NoSpaceLeft => refused(5, b"the target would end at or past 2^32"),
+        StartError::TooManyBlocks => refused(
+            29,
+            b"the firmware fills more than 65533 blocks, and DfuSe has no numbers for more: the transfer size is too small for it",
+        ),
         StartError::BudgetSpent => refused(23, b"the budget is spent"),
     }
 }
@@ -74,7 +78,6 @@ pub fn session(error: Error) {
             got: _,
             expected: _,
         } => refused(2, b"the device is in a state that is not expected"),
-        Error::MaximumTransferSizeExceeded => refused(3, b"a block would end at or past 2^32"),
         Error::EraseLimitReached => refused(4, b"a page to erase ends at or past 2^32"),
         Error::NoSpaceLeft => refused(5, b"no page is left to erase"),
         Error::ResponseTooShort { got: _ } => refused(6, b"a reply is too short"),
@@ -83,5 +86,6 @@ pub fn session(error: Error) {
         Error::NotAsAtStart => refused(25, b"what is lent is not as it was at start"),
         Error::Failed => refused(26, b"a transfer failed"),
         Error::StatusError { status: _ } => refused(27, b"the device reports an error"),
+        Error::WrongCount { count: _, len: _ } => refused(28, b"a block was not taken whole"),
     }
 }

@@ -59,7 +59,6 @@ fn warn(words: Words, protocol: DfuProtocol, run: Run) {
     warnings::address(words, protocol);
     warnings::size(setup);
     warnings::length(setup);
-    warnings::blocks(setup, run.blocks);
 }
 
 // The budget that suffices; an update that sends nothing needs none.

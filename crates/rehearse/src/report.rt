@@ -28,11 +28,8 @@ fn before(n: u64) -> u64 {
     if 0 < n { n - 1 } else { 0 }
 }
 
-// Whether so many blocks and the empty one have more numbers than there are: DfuSe's start at 2.
-pub fn is_wrapped(dfuse: bool, sent: u64) -> bool {
-    if dfuse {
-        return 65533 < sent;
-    }
+// Whether so many blocks and the empty one have more numbers than there are: only plain DFU sends as many.
+fn is_wrapped(sent: u64) -> bool {
     65535 < sent
 }
 
@@ -52,7 +49,7 @@ pub fn blocks(setup: Setup, sent: u64) {
     print::decimal(number(setup.dfuse, before(sent)));
     print::text(b", then the empty block ");
     print::decimal(number(setup.dfuse, sent));
-    if is_wrapped(setup.dfuse, sent) {
+    if is_wrapped(sent) {
         print::text(b"; 65535 is followed by 0");
     }
     print::text(b"\n");

@@ -1,6 +1,5 @@
 // What is worth a second look.
 use crate::print;
-use crate::report;
 use crate::words::Words;
 use protocol::DfuProtocol;
 use session::Error;
@@ -48,21 +47,6 @@ pub fn length(setup: Setup) {
     if setup.length == 0 {
         print::text(b"warning: the file is empty: nothing is sent, and it is finished at once\n");
     }
-}
-
-// More blocks than DfuSe has numbers for.
-pub fn blocks(setup: Setup, sent: u64) {
-    if !setup.dfuse {
-        return;
-    }
-    if !report::is_wrapped(true, sent) {
-        return;
-    }
-    print::text(b"warning: ");
-    print::decimal(sent);
-    print::text(
-        b" blocks are more than 65533: their numbers run on into 0 and 1, which mean commands\n",
-    );
 }
 
 fn after(erases: u64) {

@@ -127,6 +127,7 @@ pub fn refusal_of(e: StartError) -> Refusal {
         StartError::OutOfCapabilities => Refusal::Plain(1),
         StartError::TooManyPages => Refusal::Plain(22),
         StartError::NoSpaceLeft => Refusal::Plain(5),
+        StartError::TooManyBlocks => Refusal::Plain(29),
         StartError::BudgetSpent => Refusal::Plain(23),
     }
 }

@@ -73,7 +73,6 @@ fn refusal_of(e: Error) -> Refusal {
         Error::InvalidState { got, expected } => {
             Refusal::Two(2, got.byte() as u64, expected.byte() as u64)
         }
-        Error::MaximumTransferSizeExceeded => Refusal::Plain(3),
         Error::EraseLimitReached => Refusal::Plain(4),
         Error::NoSpaceLeft => Refusal::Plain(5),
         Error::ResponseTooShort { got } => Refusal::Two(6, got as u64, 6),
@@ -82,6 +81,7 @@ fn refusal_of(e: Error) -> Refusal {
         Error::NotAsAtStart => Refusal::Plain(25),
         Error::Failed => Refusal::Plain(26),
         Error::StatusError { status } => Refusal::One(27, status.byte() as u64),
+        Error::WrongCount { count, len } => Refusal::Two(28, count, len as u64),
     }
 }
 

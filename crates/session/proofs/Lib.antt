@@ -1,4 +1,5 @@
 pub mod Covering
+pub mod Fills
 pub mod Wishes
 pub mod Steps
 pub mod Lent

@@ -1,5 +1,5 @@
 -- The download as work, and a call with what is lent to it: document 01, 'One session, step by step'.
-use Prim.Native.Nat.{ℕ, zero, suc, _+_, _-_, _^_, _%_, min}
+use Prim.Native.Nat.{ℕ, zero, suc, _+_, _-_, _/_, _^_, _%_, min}
 use mathlib.Core.Bool.{Bool, true, false}
 use mathlib.Core.List.{List, [], _∷_, _++_}
 use lib.ListN.{length, take, drop, getD}
@@ -12,7 +12,7 @@ use Rattle.session.specs.declared.Command.the-variants.{Erase, SetAddres
 use Rattle.session.specs.declared.Request.{Request}
 use Rattle.session.specs.declared.Request.the-variants.{GetStatus, ClearStatus, Command as Commands}
 use Rattle.session.specs.declared.Wait.the-variants.{Pause, Poll}
-use Rattle.session.specs.declared.Error.the-variants.{MaximumTransferSizeExceeded, EraseLimitReached, NoSpaceLeft, NotAsAtStart}
+use Rattle.session.specs.declared.Error.the-variants.{EraseLimitReached, NoSpaceLeft, NotAsAtStart}
 use Rattle.session.specs.declared.Phase.{Phase}
 use Rattle.session.specs.declared.Phase.the-variants.{First, Clear, Second, Sent, Waiting, Resetting, Finished, Refused}
 use Rattle.session.specs.declared.Stage.{Stage}
@@ -32,12 +32,16 @@ use Rattle.session.specs.declared.Guard.the-variants.{Open, Shut}
 abbrev pub limit : ℕ
 limit = 2 ^ 32
 
--- where the target ends; the number after a block's, 65,535 followed by 0; the bytes of the block at a place
+-- where the target ends; how many blocks of at most s bytes n bytes fill
 abbrev pub endOf : Setup → ℕ
 endOf su = su .address + su .length
 
-abbrev pub up : ℕ → ℕ
-up n = (n + 1) % 65536
+unfoldable pub blockCount : ℕ → ℕ → ℕ
+blockCount n s = (n + (s - 1)) / s
+
+-- the block at a place: its number, from 0 (plain) or 2 (DfuSe) on, 65,535 followed by 0; and its bytes
+abbrev pub numberAt : Setup → ℕ → ℕ
+numberAt su place = (pick (su .dfuse) 2 0 + blockCount place (su .size)) % 65536
 
 abbrev pub blockLength : Setup → ℕ → ℕ
 blockLength su place = min (su .size) (su .length - place)
@@ -48,20 +52,16 @@ covering n [] = []
 covering zero (p ∷ ps) = []
 covering (suc n) (p ∷ ps) = p ∷ covering (suc n - p) ps
 
--- how the progress moves: a page of p bytes passed, the address set, a block numbered that brings the copied position to `to`
+-- how the progress moves: a page of p bytes passed, another stage
 abbrev pub passed : Progress → ℕ → Progress
-passed pr p = record { stage = Erasing; erased = pr .erased + p; page = pr .page + 1; number = pr .number; place = pr .place; copied = pr .copied }
+passed pr p = record { stage = Erasing; erased = pr .erased + p; page = pr .page + 1; accepted = pr .accepted }
 
-abbrev pub addressed : Progress → Progress
-addressed pr = record { stage = Writing; erased = pr .erased; page = pr .page; number = pr .number; place = pr .place; copied = pr .copied }
+abbrev pub staged : Stage → Progress → Progress
+staged st pr = record { stage = st; erased = pr .erased; page = pr .page; accepted = pr .accepted }
 
-abbrev pub numbered : Stage → Progress → ℕ → Progress
-numbered st pr to = record { stage = st; erased = pr .erased; page = pr .page; number = up (pr .number); place = pr .place; copied = to }
-
--- n bytes accepted; the place never passes the firmware's end, whatever the record
-abbrev pub accepted : Setup → Progress → ℕ → Progress
-accepted su pr n =
-    record { stage = pr .stage; erased = pr .erased; page = pr .page; number = pr .number; place = min (su .length) (pr .place + n); copied = pr .copied }
+-- the ledger: n bytes more were accepted; it never passes the firmware's end, whatever the record
+abbrev pub entered : Setup → Progress → ℕ → Progress
+entered su pr n = record { stage = pr .stage; erased = pr .erased; page = pr .page; accepted = min (su .length) (pr .accepted + n) }
 
 -- while the erased position is below the target's end: no page left is 5, position plus page at 2^32 or more is 4, else erase; then set the address
 unfoldable pub eraseNext : List ℕ → Setup → Progress → Todo
@@ -72,16 +72,14 @@ eraseNext ps su pr =
     (Send (Erase (pr .erased)) (passed pr (getD ps (pr .page) 0)))
     (Refuse EraseLimitReached))
     (Refuse NoSpaceLeft))
-    (Send (SetAddress (su .address)) (addressed pr))
+    (Send (SetAddress (su .address)) (staged Writing pr))
 
--- the next unaccepted bytes; a copied position at 2^32 or more is 3; with nothing left, one empty block
+-- the next unaccepted bytes; the ledger waits for their count; with nothing left, one empty block
 unfoldable pub writeNext : Setup → Progress → Todo
 writeNext su pr =
-    pick (ltb (pr .place) (su .length))
-    (pick (ltb (pr .copied + blockLength su (pr .place)) limit)
-    (Send (Block (pr .number) (pr .place) (blockLength su (pr .place))) (numbered Writing pr (pr .copied + blockLength su (pr .place))))
-    (Refuse MaximumTransferSizeExceeded))
-    (Send (Empty (pr .number)) (numbered Ending pr (pr .copied)))
+    pick (ltb (pr .accepted) (su .length))
+    (Send (Block (numberAt su (pr .accepted)) (pr .accepted) (blockLength su (pr .accepted))) (staged Writing pr))
+    (Send (Empty (numberAt su (pr .accepted))) (staged Ending pr))
 
 abbrev pub nextAt : Stage → List ℕ → Setup → Progress → Todo
 nextAt Erasing ps su pr = eraseNext ps su pr
@@ -91,12 +89,12 @@ nextAt Ending ps su pr = Ends
 unfoldable pub nextOf : List ℕ → Setup → Progress → Todo
 nextOf ps su pr = nextAt (pr .stage) ps su pr
 
--- only a block's count moves anything, and a count past the block means all of it
-unfoldable pub tookOf : Setup → Progress → Command → ℕ → Progress
-tookOf su pr (Erase a) n = pr
-tookOf su pr (SetAddress a) n = pr
-tookOf su pr (Block b f m) n = accepted su pr (min n m)
-tookOf su pr (Empty b) n = pr
+-- only a block that was taken moves anything: its bytes are entered
+unfoldable pub tookOf : Setup → Progress → Command → Progress
+tookOf su pr (Erase a) = pr
+tookOf su pr (SetAddress a) = pr
+tookOf su pr (Block b f m) = entered su pr m
+tookOf su pr (Empty b) = pr
 
 abbrev pub download : List ℕ → Work
 download ps = record { next = nextOf ps; took = tookOf }

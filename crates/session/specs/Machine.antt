@@ -1,5 +1,6 @@
 -- A session as a machine over told answers, whatever the work: document 01, 'One session, step by step' and 'When the box says no'.
 use Prim.Native.Nat.{ℕ, zero, suc}
+use mathlib.Core.Bool.{Bool, true}
 use mathlib.Core.List.{List, [], _∷_}
 use lib.Dec.{eqb}
 use Rattle.ground.specs.Pick.{pick}
@@ -19,7 +20,7 @@ use Rattle.session.specs.declared.Request.the-variants.{GetStatus, Clear
 use Rattle.session.specs.declared.Wait.{Wait}
 use Rattle.session.specs.declared.Wait.the-variants.{Pause, Poll}
 use Rattle.session.specs.declared.Error.{Error}
-use Rattle.session.specs.declared.Error.the-variants.{InvalidState, MaximumTransferSizeExceeded, EraseLimitReached, NoSpaceLeft, ResponseTooShort, BudgetSpent, NotAwaited, NotAsAtStart, Failed, StatusError}
+use Rattle.session.specs.declared.Error.the-variants.{InvalidState, EraseLimitReached, NoSpaceLeft, ResponseTooShort, BudgetSpent, NotAwaited, NotAsAtStart, Failed, StatusError, WrongCount}
 use Rattle.session.specs.declared.End.the-variants.{Stays, Reset}
 use Rattle.session.specs.declared.Phase.{Phase}
 use Rattle.session.specs.declared.Phase.the-variants.{First, Clear, Second, Sent, Waiting, Resetting, Finished, Refused}
@@ -40,10 +41,10 @@ pub data Answer : Type 0 where
   wasReset : Answer
   failed : Answer
 
--- the work: what it wants next, and how a told count moves it
+-- the work: what it wants next, and how a command that was taken moves it
 pub record Work : Type 0 where
   pub next : Setup → Progress → Todo
-  pub took : Setup → Progress → Command → ℕ → Progress
+  pub took : Setup → Progress → Command → Progress
 
 abbrev pub mk : Setup → Progress → ℕ → Phase → Session
 mk su pr l p = record { setup = su; progress = pr; left = l; phase = p }
@@ -73,6 +74,24 @@ waitAfter su (Erase a) = Pause DfuDnbusy DfuDnloadIdle 0
 waitAfter su (SetAddress a) = Pause DfuDnbusy DfuDnloadIdle 0
 waitAfter su (Block n f m) = Pause DfuDnbusy DfuDnloadIdle 0
 waitAfter su (Empty n) = Pause DfuManifest (pick (su .tolerant) DfuIdle DfuManifest) 0
+
+-- the bytes that a command has to be taken with: a block's own
+abbrev pub wholeOf : Command → ℕ
+wholeOf (Erase a) = 0
+wholeOf (SetAddress a) = 0
+wholeOf (Block n f m) = m
+wholeOf (Empty n) = 0
+
+-- a block's count is its length; counts told for erase, address and the empty block are ignored
+abbrev pub takenb : Command → ℕ → Bool
+takenb (Erase a) n = true
+takenb (SetAddress a) n = true
+takenb (Block b f m) n = eqb n m
+takenb (Empty b) n = true
+
+-- then the progress moves and the wait begins; any other count of a block is 28, with both numbers
+abbrev pub onCount : Setup → Progress → ℕ → Command → Progress → ℕ → Session
+onCount su pr l c then n = pick (takenb c n) (mk su then l (Waiting (waitAfter su c))) (refuse su pr l (WrongCount n (wholeOf c)))
 
 -- the first reply of a session may report the error that CLRSTATUS clears; every later one must have status 0
 abbrev pub firstReply : List ℕ → Reply
@@ -161,7 +180,7 @@ abbrev pub toldAt : Work → Setup → Progress → ℕ → Phase → Answer →
 toldAt w su pr l First a = awaitReply (mk su pr l First) (λ bs. reading su pr l (firstReply bs) (onFirst su pr l)) a
 toldAt w su pr l Clear a = awaitCount (mk su pr l Clear) (λ n. issue su pr l pr Second) a
 toldAt w su pr l Second a = awaitReply (mk su pr l Second) (λ bs. reading su pr l (laterReply bs) (onSecond su pr l (w .next su pr))) a
-toldAt w su pr l (Sent c) a = awaitCount (mk su pr l (Sent c)) (λ n. mk su (w .took su pr c n) l (Waiting (waitAfter su c))) a
+toldAt w su pr l (Sent c) a = awaitCount (mk su pr l (Sent c)) (onCount su pr l c (w .took su pr c)) a
 toldAt w su pr l (Waiting (Pause b t ms)) a = awaitWait (mk su pr l (Waiting (Pause b t ms))) (issue su pr l pr (Waiting (Poll b t))) a
 toldAt w su pr l (Waiting (Poll b t)) a =
     awaitReply (mk su pr l (Waiting (Poll b t))) (λ bs. reading su pr l (laterReply bs) (onPoll su pr l b t (w .next su pr))) a
@@ -175,7 +194,6 @@ told w s a = toldAt w (s .setup) (s .progress) (s .left) (s .phase) a
 -- document 01's number and values for each answer
 abbrev pub saidError : Error → Said
 saidError (InvalidState got expected) = says 2 (stateByte got ∷ stateByte expected ∷ [])
-saidError MaximumTransferSizeExceeded = says 3 []
 saidError EraseLimitReached = says 4 []
 saidError NoSpaceLeft = says 5 []
 saidError (ResponseTooShort got) = says 6 (got ∷ 6 ∷ [])
@@ -184,6 +202,7 @@ saidError NotAwaited = says 24 []
 saidError NotAsAtStart = says 25 []
 saidError Failed = says 26 []
 saidError (StatusError status) = says 27 (statusByte status ∷ [])
+saidError (WrongCount n m) = says 28 (n ∷ m ∷ [])
 
 abbrev pub saidAsk : Ask → Said
 saidAsk (Transfer q) = says 0 []

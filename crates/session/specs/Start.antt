@@ -18,11 +18,11 @@ use Rattle.session.specs.declared.start.DfuSansIo.{DfuSansIo}
 use Rattle.session.specs.declared.start.Override.{Override}
 use Rattle.session.specs.declared.start.Override.the-variants.{Nothing, Address}
 use Rattle.session.specs.declared.start.StartError.{StartError}
-use Rattle.session.specs.declared.start.StartError.the-variants.{OutOfCapabilities, TooManyPages, NoSpaceLeft, BudgetSpent}
+use Rattle.session.specs.declared.start.StartError.the-variants.{OutOfCapabilities, TooManyPages, NoSpaceLeft, TooManyBlocks, BudgetSpent}
 use Rattle.session.specs.declared.start.Started.{Started}
 use Rattle.session.specs.declared.start.Started.the-variants.{Session as Begun, Refused}
 use Rattle.session.specs.Machine.{mk}
-use Rattle.session.specs.Download.{limit, endOf}
+use Rattle.session.specs.Download.{limit, endOf, blockCount}
 
 abbrev pub newIo : FunctionalDescriptor → DfuSansIo
 newIo d = record { descriptor = d; «override_address» = Nothing }
@@ -51,15 +51,13 @@ setupOf io p length pages = record {
   detach = io .descriptor .«will_detach»;
 }
 
--- block number from 0 (plain) or 2 (DfuSe), copied position from 0 or the address, pages erased from the address on
+-- pages are erased from the address on, and nothing is accepted yet
 abbrev pub fresh : Setup → Progress
 fresh su = record {
   stage = pick (su .dfuse) Erasing Writing;
   erased = pick (su .dfuse) (su .address) 0;
   page = 0;
-  number = pick (su .dfuse) 2 0;
-  place = 0;
-  copied = pick (su .dfuse) (su .address) 0;
+  accepted = 0;
 }
 
 -- firmware empty or transfer size 0; DfuSe's address plus length at 2^32 or more; over the limit of pages, which plain DFU doesn't count
@@ -72,6 +70,13 @@ beyondb su = pick (su .dfuse) (leb limit (endOf su)) false
 abbrev pub overb : Bool → ℕ → Bool
 overb dfuse pages = pick dfuse (ltb maxPages pages) false
 
+-- DfuSe's numbers reach so many blocks, from 2 on, and the empty one; plain DFU's begin again
+abbrev pub maxBlocks : ℕ
+maxBlocks = 65533
+
+abbrev pub manyb : Bool → ℕ → ℕ → Bool
+manyb dfuse length size = pick dfuse (ltb maxBlocks (blockCount length size)) false
+
 -- budget 0 is refused; the first GETSTATUS spends 1
 abbrev pub starting : Setup → ℕ → Started
 starting su zero = Refused BudgetSpent
@@ -79,9 +84,11 @@ starting su (suc l) = Begun (mk su (fresh su) l First)
 
 unfoldable pub begunOf : Setup → ℕ → Started
 begunOf su budget =
-    pick (nothingb su) (Begun (mk su (fresh su) budget (Finished Stays))) (pick (beyondb su) (Refused NoSpaceLeft) (starting su budget))
+    pick (nothingb su) (Begun (mk su (fresh su) budget (Finished Stays)))
+    (pick (beyondb su) (Refused NoSpaceLeft)
+    (pick (manyb (su .dfuse) (su .length) (su .size)) (Refused TooManyBlocks) (starting su budget)))
 
--- in this order: too long, too many pages, finished at once, no space, budget
+-- in this order: too long, too many pages, finished at once, no space, too many blocks, budget
 unfoldable pub beginOf : DfuSansIo → DfuProtocol → ℕ → ℕ → ℕ → Started
 beginOf io p length pages budget =
     pick (ltb 4294967295 length) (Refused OutOfCapabilities)
@@ -92,6 +99,7 @@ abbrev pub saidStart : StartError → Said
 saidStart OutOfCapabilities = says 1 []
 saidStart TooManyPages = says 22 []
 saidStart NoSpaceLeft = says 5 []
+saidStart TooManyBlocks = says 29 []
 saidStart BudgetSpent = says 23 []
 
 abbrev pub saidStarted : Started → Said

@@ -1,8 +1,8 @@
-// What a download wants next, and how a told count moves it: download.rs.
+// What a download wants next, and how a command that was taken moves it: download.rs.
 ghost use mathlib.Core.Path.{_≡_};
-ghost use Prim.Native.Nat.{_+_, _-_, _%_, min};
+ghost use Prim.Native.Nat.{_-_, min};
 ghost use lib.ListN.{length};
-ghost use Rattle.session.specs.Download.{covering, accepted, eraseNext, writeNext, nextOf, tookOf};
+ghost use Rattle.session.specs.Download.{covering, blockCount, numberAt, staged as stagedAs, entered, eraseNext, writeNext, nextOf, tookOf};
 use crate::Command;
 use crate::Error;
 use crate::Progress;
@@ -34,11 +34,33 @@ pub fn cover(pages: &[u32], left: u32) -> usize
     1 + cover(&pages[1..], rest)
 }
 
+// How many blocks of at most `size` bytes so many bytes fill; none of size 0.
+pub fn blocks(len: u32, size: u16) -> u64
+    ensures { λ r. ⌜ r ≡ blockCount len size ⌝ }
+{
+    if size == 0 {
+        return 0;
+    }
+    ((len as u64) + ((size as u64) - 1)) / (size as u64)
+}
+
 // The smaller of two 64-bit counts.
 fn least(a: u64, b: u64) -> u64
     ensures { λ r. ⌜ r ≡ min a b ⌝ }
 {
     if a < b { a } else { b }
+}
+
+// Another stage; nothing else moves.
+fn staged(stage: Stage, progress: Progress) -> Progress
+    ensures { λ r. ⌜ r ≡ stagedAs stage progress ⌝ }
+{
+    Progress {
+        stage,
+        erased: progress.erased,
+        page: progress.page,
+        accepted: progress.accepted,
+    }
 }
 
 // The erase of the next page while the target is not covered, then the address.
@@ -50,14 +72,7 @@ pub(crate) fn erase(pages: &[u32], setup: Setup, progress: Progress) -> Todo
     if end <= at {
         return Todo::Send {
             command: Command::SetAddress(setup.address),
-            then: Progress {
-                stage: Stage::Writing,
-                erased: progress.erased,
-                page: progress.page,
-                number: progress.number,
-                place: progress.place,
-                copied: progress.copied,
-            },
+            then: staged(Stage::Writing, progress),
         };
     }
     let i = progress.page;
@@ -74,54 +89,38 @@ pub(crate) fn erase(pages: &[u32], setup: Setup, progress: Progress) -> Todo
             stage: Stage::Erasing,
             erased: to as u32,
             page: i + 1,
-            number: progress.number,
-            place: progress.place,
-            copied: progress.copied,
+            accepted: progress.accepted,
         },
     }
 }
 
-// The number after a block's.
-fn next_number(number: u16) -> u16
-    ensures { λ r. ⌜ r ≡ (number + 1) % 65536 ⌝ }
+// The number of the block at a place: from 2 on for DfuSe, from 0 on for plain DFU, 65,535 followed by 0.
+fn number_at(setup: Setup, place: u32) -> u16
+    ensures { λ r. ⌜ r ≡ numberAt setup place ⌝ }
 {
-    ((number as u32 + 1) % 65536) as u16
+    let before = blocks(place, setup.size);
+    if setup.dfuse {
+        return ((2 + before) % 65536) as u16;
+    }
+    (before % 65536) as u16
 }
 
-// The block of the next bytes, or the empty block when none are left.
+// The block of the next bytes, or the empty block when none are left. The ledger waits for the block's count.
 pub(crate) fn write(setup: Setup, progress: Progress) -> Todo
     ensures { λ r. ⌜ r ≡ writeNext setup progress ⌝ }
 {
-    let place = progress.place;
-    let number = progress.number;
+    let place = progress.accepted;
+    let number = number_at(setup, place);
     if setup.length <= place {
         return Todo::Send {
             command: Command::Empty { number },
-            then: Progress {
-                stage: Stage::Ending,
-                erased: progress.erased,
-                page: progress.page,
-                number: next_number(number),
-                place,
-                copied: progress.copied,
-            },
+            then: staged(Stage::Ending, progress),
         };
     }
     let len = least(setup.size as u64, (setup.length - place) as u64) as u32;
-    let to = (progress.copied as u64) + (len as u64);
-    if LIMIT <= to {
-        return Todo::Refuse(Error::MaximumTransferSizeExceeded);
-    }
     Todo::Send {
         command: Command::Block { number, place, len },
-        then: Progress {
-            stage: Stage::Writing,
-            erased: progress.erased,
-            page: progress.page,
-            number: next_number(number),
-            place,
-            copied: to as u32,
-        },
+        then: staged(Stage::Writing, progress),
     }
 }
 
@@ -137,28 +136,26 @@ pub(crate) fn next(pages: &[u32], setup: Setup, progress: Progress) -> Todo
     }
 }
 
-// The progress when so many bytes of a block were accepted.
-fn advance(setup: Setup, progress: Progress, taken: u32) -> Progress
-    ensures { λ r. ⌜ r ≡ accepted setup progress taken ⌝ }
+// The ledger's one way to move: so many bytes more were accepted. It never passes the firmware's end.
+fn enter(setup: Setup, progress: Progress, taken: u32) -> Progress
+    ensures { λ r. ⌜ r ≡ entered setup progress taken ⌝ }
 {
     let stage = progress.stage;
     let to = least(
         setup.length as u64,
-        (progress.place as u64) + (taken as u64),
+        (progress.accepted as u64) + (taken as u64),
     );
     Progress {
         stage,
         erased: progress.erased,
         page: progress.page,
-        number: progress.number,
-        place: to as u32,
-        copied: progress.copied,
+        accepted: to as u32,
     }
 }
 
-// The progress after a command's told count: only a block's moves anything, and a count past the block means all of it.
-pub(crate) fn took(setup: Setup, progress: Progress, command: Command, count: u64) -> Progress
-    ensures { λ r. ⌜ r ≡ tookOf setup progress command count ⌝ }
+// The progress once a command was taken: only a block with its bytes moves anything.
+pub(crate) fn took(setup: Setup, progress: Progress, command: Command) -> Progress
+    ensures { λ r. ⌜ r ≡ tookOf setup progress command ⌝ }
 {
     match command {
         Command::Erase(_) => progress,
@@ -167,7 +164,7 @@ pub(crate) fn took(setup: Setup, progress: Progress, command: Command, count: u6
             number: _,
             place: _,
             len,
-        } => advance(setup, progress, least(count, len as u64) as u32),
+        } => enter(setup, progress, len),
         Command::Empty { number: _ } => progress,
     }
 }

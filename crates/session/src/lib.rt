@@ -36,8 +36,6 @@ pub enum Wait {
 pub enum Error {
     // 2
     InvalidState { got: State, expected: State },
-    // 3: the copied position would reach 2^32
-    MaximumTransferSizeExceeded,
     // 4: the erased position would reach 2^32
     EraseLimitReached,
     // 5: no page is left to erase
@@ -54,6 +52,8 @@ pub enum Error {
     Failed,
     // 27: a reply but the first has a status other than 0
     StatusError { status: Status },
+    // 28: a block was not taken whole: the told count, and the block's length
+    WrongCount { count: u64, len: u32 },
 }
 
 // How a session finished.
@@ -108,10 +108,8 @@ pub struct Progress {
     // The position up to which pages were erased, and the index of the next page.
     pub erased: u32,
     pub page: usize,
-    // The next block's number, the place of the first byte not yet accepted, and the copied position.
-    pub number: u16,
-    pub place: u32,
-    pub copied: u32,
+    // The ledger: how many bytes of the firmware were accepted. A block's number, place and length are read off it.
+    pub accepted: u32,
 }
 
 // A session: it holds its phase, and a waiting phase holds what it waits for.

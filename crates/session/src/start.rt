@@ -1,7 +1,7 @@
 // Where a session begins: DfuSansIo of lib.rs, with download as our start.
 ghost use mathlib.Core.Path.{_≡_};
 ghost use lib.ListN.{length};
-ghost use Rattle.session.specs.Start.{newIo, withAddress, dfuseb, targetOf, fresh, nothingb, beyondb, overb, begunOf, beginOf};
+ghost use Rattle.session.specs.Start.{newIo, withAddress, dfuseb, targetOf, fresh, nothingb, beyondb, overb, manyb, begunOf, beginOf};
 ghost use Rattle.protocol.specs.Interface.{detachRequest};
 use crate::End;
 use crate::Phase;
@@ -9,6 +9,7 @@ use crate::Progress;
 use crate::Session;
 use crate::Setup;
 use crate::Stage;
+use crate::download;
 use functional_descriptor::FunctionalDescriptor;
 use memory_layout::MAX_PAGES;
 use protocol::DfuProtocol;
@@ -19,6 +20,9 @@ pub enum Override {
     Nothing,
     Address(u32),
 }
+
+// The most blocks of a DfuSe firmware: their numbers are 2 to 65,534, and the empty block's is 65,535.
+pub const MAX_BLOCKS: u64 = 65533;
 
 // What sessions are started from.
 pub struct DfuSansIo {
@@ -34,6 +38,8 @@ pub enum StartError {
     TooManyPages,
     // 5: the target would reach 2^32
     NoSpaceLeft,
+    // 29: DfuSe has no number for the last block
+    TooManyBlocks,
     // 23
     BudgetSpent,
 }
@@ -74,18 +80,14 @@ fn unstarted(setup: Setup) -> Progress
             stage: Stage::Erasing,
             erased: setup.address,
             page: 0,
-            number: 2,
-            place: 0,
-            copied: setup.address,
+            accepted: 0,
         };
     }
     Progress {
         stage: Stage::Writing,
         erased: 0,
         page: 0,
-        number: 0,
-        place: 0,
-        copied: 0,
+        accepted: 0,
     }
 }
 
@@ -119,7 +121,17 @@ fn is_over(dfuse: bool, pages: usize) -> bool
     false
 }
 
-// A session whose limits were tested: finished at once, refused for its end or its budget, or begun.
+// More blocks than DfuSe can number; plain DFU's numbers begin again.
+pub fn is_many(dfuse: bool, length: u32, size: u16) -> bool
+    ensures { λ r. ⌜ r ≡ manyb dfuse length size ⌝ }
+{
+    if dfuse {
+        return MAX_BLOCKS < download::blocks(length, size);
+    }
+    false
+}
+
+// A session whose lengths were tested: finished at once, refused for its end, its blocks or its budget, or begun.
 fn begun(setup: Setup, budget: u64) -> Started
     ensures { λ r. ⌜ r ≡ begunOf setup budget ⌝ }
 {
@@ -134,6 +146,9 @@ fn begun(setup: Setup, budget: u64) -> Started
     }
     if is_beyond(setup) {
         return Started::Refused(StartError::NoSpaceLeft);
+    }
+    if is_many(setup.dfuse, setup.length, setup.size) {
+        return Started::Refused(StartError::TooManyBlocks);
     }
     if budget == 0 {
         return Started::Refused(StartError::BudgetSpent);

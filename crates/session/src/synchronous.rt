@@ -8,6 +8,9 @@ ghost use Rattle.session.specs.Machine.{
   proceed,
   endPhase,
   waitAfter,
+  takenb,
+  wholeOf,
+  onCount,
   firstReply,
   laterReply,
   reading,
@@ -150,6 +153,61 @@ fn wait_after(setup: Setup, command: Command) -> Wait
             },
             ms: 0,
         },
+    }
+}
+
+// The bytes that a command has to be taken with: a block's own.
+pub fn whole(command: Command) -> u32
+    ensures { λ r. ⌜ r ≡ wholeOf command ⌝ }
+{
+    match command {
+        Command::Erase(_) => 0,
+        Command::SetAddress(_) => 0,
+        Command::Block {
+            number: _,
+            place: _,
+            len,
+        } => len,
+        Command::Empty { number: _ } => 0,
+    }
+}
+
+// Whether a told count is as it must be: a block's is its length, any other isn't looked at.
+fn is_taken(command: Command, count: u64) -> bool
+    ensures { λ r. ⌜ r ≡ takenb command count ⌝ }
+{
+    match command {
+        Command::Erase(_) => true,
+        Command::SetAddress(_) => true,
+        Command::Block {
+            number: _,
+            place: _,
+            len,
+        } => count == len as u64,
+        Command::Empty { number: _ } => true,
+    }
+}
+
+// The count of a command was told: the progress moves and the wait begins, unless a block was not taken whole.
+fn counted(
+    setup: Setup,
+    progress: Progress,
+    left: u64,
+    sent: Command,
+    then: Progress,
+    count: u64,
+) -> Session
+    ensures { λ r. ⌜ r ≡ onCount setup progress left sent then count ⌝ }
+{
+    if !is_taken(sent, count) {
+        let len = whole(sent);
+        return refused(setup, progress, left, Error::WrongCount { count, len });
+    }
+    Session {
+        setup,
+        progress: then,
+        left,
+        phase: Phase::Waiting(wait_after(setup, sent)),
     }
 }
 
@@ -422,12 +480,10 @@ impl Session {
             },
             Guard::Open => match phase {
                 Phase::Clear => step_to(issued(setup, progress, left, progress, Phase::Second)),
-                Phase::Sent(sent) => step_to(Session {
-                    setup,
-                    progress: download::took(setup, progress, sent, count),
-                    left,
-                    phase: Phase::Waiting(wait_after(setup, sent)),
-                }),
+                Phase::Sent(sent) => {
+                    let then = download::took(setup, progress, sent);
+                    step_to(counted(setup, progress, left, sent, then, count))
+                }
                 _ => not_awaited(self),
             },
         }

@@ -33,6 +33,9 @@ enum-known-phase c = search needs
 whole-requires : tie.Need-whole-requires
 whole-requires c κs = search needs
 
+cast-told-count : tie.Need-cast-told-count
+cast-told-count c = search needs
+
 told-count-requires-2 : tie.Need-told-count-requires-2
 told-count-requires-2 c κs = search needs
 
@@ -156,6 +159,7 @@ told-spec =
     shown-requires-2
     enum-known-phase
     whole-requires
+    cast-told-count
     told-count-requires-2
     enum-known-phase-2
     enum-told-4

@@ -31,18 +31,41 @@ returns-2 : tie.Need-returns-2
 unfolding enoughOf
 returns-2 c = simp (le-ltb _ _ (c .before .before .before .if1 .left), ← (c .before .before .is-dfuse .ensures), ← (c .before .is-over .ensures), c .if2 .taken)
 
+cast-is-many : tie.Need-cast-is-many
+cast-is-many c = search needs
+
+is-many-requires : tie.Need-is-many-requires
+is-many-requires c κs = search needs
+
+returns-3 : tie.Need-returns-3
+unfolding enoughOf
+returns-3 c = simp (le-ltb _ _ (c .before .before .before .before .before .before .if1 .left), ← (c .before .before .before .before .before .is-dfuse .ensures), ← (c .before .before .before .before .is-over .ensures), c .before .before .before .if2 .left, ← (c .before .is-many .ensures), c .if3 .taken)
+
 cast-requests : tie.Need-cast-requests
 cast-requests c = search needs
 
 requests-requires : tie.Need-requests-requires
-requests-requires c κs = few (c .before .before .before .is-dfuse .result) _ (sym (c .before .before .is-over .ensures) ∙ c .before .if2 .left)
+requests-requires c κs = few (c .before .before .before .before .before .is-dfuse .result) _ (sym (c .before .before .before .before .is-over .ensures) ∙ c .before .before .before .if2 .left)
 
 budget-for-requires : tie.Need-budget-for-requires
-budget-for-requires c κs = rw (c .requests .ensures) (commands-pos (c .before .before .before .before .is-dfuse .result) _ _ _)
+budget-for-requires c κs = rw (c .requests .ensures) (commands-pos (c .before .before .before .before .before .before .is-dfuse .result) _ _ _)
 
-returns-3 : tie.Need-returns-3
+returns-4 : tie.Need-returns-4
 unfolding enoughOf
-returns-3 c = simp (le-ltb _ _ (c .before .before .before .before .before .before .if1 .left), ← (c .before .before .before .before .before .is-dfuse .ensures), ← (c .before .before .before .before .is-over .ensures), c .before .before .before .if2 .left, ← (c .before .requests .ensures)) (c .budget-for .ensures)
+returns-4 c = simp (le-ltb _ _ (c .before .before .before .before .before .before .before .before .if1 .left), ← (c .before .before .before .before .before .before .before .is-dfuse .ensures), ← (c .before .before .before .before .before .before .is-over .ensures), c .before .before .before .before .before .if2 .left, ← (c .before .before .before .is-many .ensures), c .before .before .if3 .left, ← (c .before .requests .ensures)) (c .budget-for .ensures)
 
 pub enough-for-spec : {M : Type 1} → statement M
-enough-for-spec = tie.close (tie.spec returns is-dfuse-requires is-over-requires returns-2 cast-requests requests-requires budget-for-requires returns-3)
+enough-for-spec =
+    tie.close
+    (tie.spec
+    returns
+    is-dfuse-requires
+    is-over-requires
+    returns-2
+    cast-is-many
+    is-many-requires
+    returns-3
+    cast-requests
+    requests-requires
+    budget-for-requires
+    returns-4)

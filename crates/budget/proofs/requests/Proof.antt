@@ -6,12 +6,12 @@ use borrow.Author.Needs.{needs}
 use lib.ListN.{length}
 use Rattle.memory_layout.specs.Layout.{maxPages}
 use Rattle.session.proofs.Covering.{bounded}
-use Rattle.plan.proofs.Blocks.{blockCount-bound}
+use Rattle.session.proofs.Fills.{blockCount-bound}
 use Rattle.budget.proofs.requests.Statement.{statement}
 use Rattle.budget.proofs.requests.Tie as tie
 
-blocks-of-requires : tie.Need-blocks-of-requires
-blocks-of-requires c κs = search needs
+blocks-requires : tie.Need-blocks-requires
+blocks-requires c κs = search needs
 
 cover-requires : tie.Need-cover-requires
 cover-requires c κs = search needs
@@ -20,24 +20,24 @@ add-result : tie.Need-add-result
 add-result c =
     let a = c .before .before .before .before .args in
     let few : length (now (a .pages)) ≤ maxPages = c .before .before .before .before .pre (c .before .if1 .taken) in
-    omega (arith, c .cover .ensures, c .before .before .blocks-of .ensures, bounded (a .len) (now (a .pages)), blockCount-bound (a .len) (a .size))
+    omega (arith, c .cover .ensures, c .before .before .blocks2 .ensures, bounded (a .len) (now (a .pages)), blockCount-bound (a .len) (a .size))
 
 add-result-2 : tie.Need-add-result-2
 add-result-2 c =
     let a = c .before .before .before .before .args in
     let few : length (now (a .pages)) ≤ maxPages = c .before .before .before .before .pre (c .before .if1 .taken) in
-    omega (arith, c .cover .ensures, c .before .before .blocks-of .ensures, bounded (a .len) (now (a .pages)), blockCount-bound (a .len) (a .size))
+    omega (arith, c .cover .ensures, c .before .before .blocks2 .ensures, bounded (a .len) (now (a .pages)), blockCount-bound (a .len) (a .size))
 
 returns : tie.Need-returns
-returns c = simp (c .before .if1 .taken, c .cover .ensures, c .before .before .blocks-of .ensures)
+returns c = simp (c .before .if1 .taken, c .cover .ensures, c .before .before .blocks2 .ensures)
 
 add-result-3 : tie.Need-add-result-3
 add-result-3 c =
     let a = c .before .before .before .args in
-    omega (arith, c .before .blocks-of .ensures, blockCount-bound (a .len) (a .size))
+    omega (arith, c .before .blocks2 .ensures, blockCount-bound (a .len) (a .size))
 
 returns-2 : tie.Need-returns-2
-returns-2 c = simp (c .if1 .left, c .before .blocks-of .ensures)
+returns-2 c = simp (c .if1 .left, c .before .blocks2 .ensures)
 
 pub requests-spec : {M : Type 1} → statement M
-requests-spec = tie.close (tie.spec blocks-of-requires cover-requires add-result add-result-2 returns add-result-3 returns-2)
+requests-spec = tie.close (tie.spec blocks-requires cover-requires add-result add-result-2 returns add-result-3 returns-2)

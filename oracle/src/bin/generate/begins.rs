@@ -10,12 +10,20 @@ const LIMIT: u64 = 1 << 32;
 const ADDRESSES: [u32; 4] = [0, 1, 0x0800_0000, u32::MAX];
 const OVERRIDES: [Option<u32>; 4] = [None, Some(0), Some(1), Some(u32::MAX)];
 const SIZES: [u16; 4] = [0, 6, 7, 65_535];
-const LENGTHS: [u64; 14] = [
+/// The most blocks that DfuSe has numbers for.
+const MOST_BLOCKS: u64 = 65_533;
+const LENGTHS: [u64; 20] = [
     0,
     1,
     2,
     6,
     4_096,
+    MOST_BLOCKS * 6,
+    MOST_BLOCKS * 6 + 1,
+    MOST_BLOCKS * 7,
+    MOST_BLOCKS * 7 + 1,
+    MOST_BLOCKS * 65_535,
+    MOST_BLOCKS * 65_535 + 1,
     LIMIT - 0x0800_0001,
     LIMIT - 0x0800_0000,
     LIMIT - 2,
@@ -57,9 +65,16 @@ pub fn random(rng: &mut Rng) -> Case {
     let address = rng.sized(32) as u32;
     let override_address = rng.one_in(3).then(|| rng.sized(32) as u32);
     let start = u64::from(override_address.unwrap_or(address));
-    let length = match rng.below(4) {
+    let size = if rng.one_in(16) {
+        0
+    } else {
+        rng.sized(16) as u16
+    };
+    let length = match rng.below(8) {
         0 => rng.sized(64),
         1 => rng.sized(33),
+        // about the longest that DfuSe has numbers for
+        2..=5 => (MOST_BLOCKS * u64::from(size) + rng.sized(3)).saturating_sub(rng.sized(20)),
         // about the length that ends at 2^32
         _ => (LIMIT - start + rng.below(5)).saturating_sub(2),
     };
@@ -68,11 +83,7 @@ pub fn random(rng: &mut Rng) -> Case {
             kind: rng.pick(&KINDS),
             address,
             override_address,
-            size: if rng.one_in(16) {
-                0
-            } else {
-                rng.sized(16) as u16
-            },
+            size,
         },
         length,
         budget: rng.sized(64),

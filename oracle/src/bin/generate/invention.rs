@@ -16,6 +16,7 @@ pub fn session(rng: &mut Rng) -> Session {
         odd_one_in: rng.pick(&[8, 20, 100]),
         run: None,
         spent: 0,
+        erases: 0,
         session: &session,
         rng,
     };
@@ -102,11 +103,14 @@ struct Inventor<'a> {
     odd_one_in: u64,
     run: Option<Run>,
     spent: u64,
+    /// How many erases were asked.
+    erases: usize,
 }
 
 impl Host for Inventor<'_> {
     fn told(&mut self, ask: &Ask) -> Option<Told> {
         self.spent += u64::from(ask.is_transfer());
+        self.erases += usize::from(erase(ask).is_some());
         if let Some((told, _)) = self.run.as_mut().and_then(|run| run.tell(ask)) {
             return Some(told);
         }
@@ -136,19 +140,51 @@ impl Inventor<'_> {
         }
     }
 
-    /// At times an automatic word. A long run is a quiet one; rounds begin at a download request.
+    /// At times an automatic word. A long run is a quiet one.
     fn automatic(&mut self, ask: &Ask) -> Option<Word> {
         let blocks = self.session.length / usize::from(self.session.target.size).max(1);
         let long = blocks + self.session.pages.len() > 12;
         let busy = self.rng.below(3);
-        let downloads = matches!(ask, Ask::Write { data, .. } if !matches!(data, Data::Nothing));
         match self.rng.below(100) {
             0 | 1 if !long => Some(Word::Auto(busy)),
             0 | 1 => Some(Word::Quiet(busy)),
             2 => Some(Word::Quiet(busy)),
-            3 if downloads => Some(Word::Rounds(1 + self.rng.sized(7))),
+            3..=5 => Some(Word::Rounds(1 + self.rng.below(self.most_rounds(ask)?))),
             _ => None,
         }
+    }
+
+    /// How many rounds may begin here. They go as far as the address, since a block with data has to be taken whole.
+    fn most_rounds(&self, ask: &Ask) -> Option<u64> {
+        match ask {
+            Ask::Write {
+                data: Data::Command(_),
+                ..
+            } => Some(1 + erase(ask).map_or(0, |at| self.erases_from(at))),
+            Ask::Write {
+                data: Data::Firmware { length: 0, .. },
+                ..
+            } => Some(9),
+            _ => None,
+        }
+    }
+
+    /// How many erases are left, with the one that is asked at this position.
+    fn erases_from(&self, position: u32) -> u64 {
+        let Target {
+            address,
+            override_address,
+            ..
+        } = self.session.target;
+        let end = u64::from(override_address.unwrap_or(address)) + self.session.length as u64;
+        let mut position = u64::from(position);
+        let pages = self.session.pages[self.erases - 1..].iter();
+        let erased = pages.take_while(|&&page| {
+            let before = position;
+            position += u64::from(page);
+            before < end
+        });
+        erased.count() as u64
     }
 
     fn tell(&mut self, ask: &Ask) -> Told {
@@ -157,6 +193,7 @@ impl Inventor<'_> {
             Ask::Wait(_) => Told::Wait,
             _ if odd && self.rng.one_in(2) => Told::Failure,
             Ask::Reset => Told::Reset,
+            Ask::Write { data, .. } if data.is_block() => Told::Count(data.full_count()),
             Ask::Write { data, .. } => Told::Count(self.count(data.full_count())),
             Ask::Read { awaited, .. } => {
                 let state = self.state(awaited, odd);
@@ -165,6 +202,7 @@ impl Inventor<'_> {
         }
     }
 
+    /// The count of anything but a block with data: none is looked at.
     fn count(&mut self, full: u64) -> u64 {
         match self.rng.below(10) {
             0 => 0,
@@ -205,6 +243,17 @@ impl Inventor<'_> {
             bytes[0] = 0;
         }
         bytes
+    }
+}
+
+/// The position that is to be erased, if it is an erase.
+fn erase(ask: &Ask) -> Option<u32> {
+    match *ask {
+        Ask::Write {
+            data: Data::Command([0x41, position @ ..]),
+            ..
+        } => Some(u32::from_le_bytes(position)),
+        _ => None,
     }
 }
 

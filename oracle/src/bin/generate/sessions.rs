@@ -11,20 +11,19 @@ use crate::invention;
 use crate::product::digit;
 use crate::rng::Rng;
 
-/// Counts that no block of a small session reaches.
+/// Counts above all that a small session sends at once.
 const EXCESSIVE: [u64; 6] = [9, 65_536, 0xffff_ffff, 1 << 32, 1 << 63, u64::MAX];
 
 /// What document 01 shows from both sides.
-const DOCUMENT: [&[u8]; 9] = [
+const DOCUMENT: [&[u8]; 8] = [
     b"session dfuse 4294963200 - 2048 0 0 4095 100 5 4096 : a0",
     b"session dfuse 4294963200 - 2048 0 0 4096 100 5 4096 : a0",
     b"session dfuse 0 - 2048 0 0 2048 100 5 1024,1024 : a0",
     b"session dfuse 0 - 2048 0 0 2049 100 5 1024,1024 : a0",
-    b"session plain 0 - 8 0 0 10 100 5 - : r000000000200 r000000000200 c5 a0",
+    b"session plain 0 - 8 0 0 10 100 5 - : r000000000200 r000000000200 c8 a0",
     b"session dfuse 134217728 - 2048 0 0 4100 14 5 4x16384,65536,7x131072 : a0",
-    b"session dfuse 4294967280 - 8 0 0 8 100 5 8 : r000000000200 r000000000200 s2 c0 a0",
     b"session dfuse 0 - 8 0 0 524264 1000000 5 524264 : a0",
-    b"session dfuse 0 - 8 0 0 524280 1000000 5 524280 : a0",
+    b"session plain 0 - 8 0 0 524296 1000000 5 - : a0",
 ];
 
 pub fn fixed() -> Box<dyn Iterator<Item = Case>> {
@@ -129,10 +128,11 @@ fn replaced_answers_of(session: &Session, past: &[(Ask, Told)]) -> Vec<Session> 
     sessions
 }
 
-/// Every other answer that can be told where this is asked.
+/// Every other answer that can be told where this is asked; of a block with data no other count.
 fn replacements(ask: &Ask) -> Vec<Told> {
     match ask {
         Ask::Read { .. } => every_reply(),
+        Ask::Write { data, .. } if data.is_block() => vec![Told::Failure],
         Ask::Write { .. } => (0..=8)
             .chain(EXCESSIVE)
             .map(Told::Count)
@@ -221,25 +221,19 @@ fn edge_starts() -> impl Iterator<Item = Session> {
     })
 }
 
-/// Block numbers past 65,535, a million rounds, copied positions past 2^32 - 1, and long downloads.
+/// As many blocks as DfuSe has numbers for, block numbers past 65,535 and long erases.
 fn long_runs() -> impl Iterator<Item = Session> {
-    let stalled_often = smalls().flat_map(|session| {
-        [(8, 65_530), (6, 65_536), (8, 131_070)]
-            .map(|(size, rounds)| stalled(&session, size, rounds))
-    });
-    let stalled_once = [
-        (Kind::Plain, 6, 1_000_000),
-        (Kind::Plain, 65_535, 65_530),
-        (Kind::Dfuse, 65_535, 63_480),
-    ]
-    .map(|(kind, size, rounds)| stalled(&small(kind, false, false), size, rounds));
     let whole = smalls().flat_map(|session| {
-        [(524_264, 8), (524_280, 8), (1_048_576, 6)].map(|(length, size)| Session {
+        [(524_264, 8), (393_193, 6), (524_296, 8), (1_048_576, 6)].map(|(length, size)| Session {
             words: vec![Word::Quiet(0)],
             ..with_size(&session, size, length)
         })
     });
-    stalled_often.chain(stalled_once).chain(whole)
+    let numbers = [Kind::Plain, Kind::Dfuse].map(|kind| last_numbers(&small(kind, false, false)));
+    let erased = smalls()
+        .filter(|session| session.target.kind == Kind::Dfuse)
+        .flat_map(|session| [4_093, 4_095, 4_096, 4_097].map(|rounds| erased(&session, rounds)));
+    whole.chain(numbers).chain(erased)
 }
 
 fn with_size(session: &Session, size: u16, length: usize) -> Session {
@@ -250,16 +244,24 @@ fn with_size(session: &Session, size: u16, length: usize) -> Session {
     session
 }
 
-/// No byte is accepted in so many rounds; then a few answers are seen one by one, and the rest goes well.
-fn stalled(session: &Session, size: u16, rounds: u64) -> Session {
-    let mut session = with_size(session, size, usize::from(size));
-    let round = [Told::Count(0), Told::Wait, reply(5)];
+/// The last numbers one by one: for DfuSe the empty block's, for plain DFU 65,535, 0 and the empty block's. The two quiet
+/// words make a million calls each, which end in the wait after block 65,534.
+fn last_numbers(session: &Session) -> Session {
+    let length = match session.target.kind {
+        Kind::Plain => 65_537 * 8,
+        Kind::Dfuse => 65_533 * 8,
+    };
+    let mut session = with_size(session, 8, length);
+    session.words = vec![Word::Quiet(7), Word::Quiet(73), Word::Auto(0)];
+    session
+}
+
+/// Rounds over 4,096 erases and the address, or some of them; the rest is seen.
+fn erased(session: &Session, rounds: u64) -> Session {
+    let mut session = with_size(session, 4_096, 32_768);
+    session.pages = vec![8; 4_096];
     session.words = [reply(2), reply(2)].map(Word::Tell).to_vec();
-    session.words.push(Word::Rounds(rounds));
-    for _ in 0..9 {
-        session.words.extend(round.clone().map(Word::Tell));
-    }
-    session.words.push(Word::Auto(1));
+    session.words.extend([Word::Rounds(rounds), Word::Auto(0)]);
     session
 }
 

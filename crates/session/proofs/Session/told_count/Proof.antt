@@ -2,10 +2,9 @@
 use mathlib.Core.Path.{refl, sym, ap, _∙_}
 use lib.ListN.{length}
 use Rattle.session.specs.declared.Progress.{Progress}
-use Rattle.session.specs.declared.Wait.{Wait}
-use Rattle.session.specs.declared.Phase.the-variants.{Clear, Sent, Waiting}
-use Rattle.session.specs.Machine.{count, mk, go}
-use Rattle.session.specs.Download.{tookOf, download}
+use Rattle.session.specs.declared.Phase.the-variants.{Clear, Sent}
+use Rattle.session.specs.Machine.{count, onCount, go}
+use Rattle.session.specs.Download.{download}
 use Rattle.session.proofs.Calls.{no-count, at-phase, live, through-open, through-shut}
 use borrow.Author.Needs.{needs}
 use Rattle.session.proofs.Session.told_count.Statement.{statement}
@@ -35,8 +34,8 @@ enum-known-phase c = search needs
 took-requires : tie.Need-took-requires
 took-requires c κs = search needs
 
-wait-after-requires : tie.Need-wait-after-requires
-wait-after-requires c κs = search needs
+counted-requires : tie.Need-counted-requires
+counted-requires c κs = search needs
 
 step-to-requires-2 : tie.Need-step-to-requires-2
 step-to-requires-2 c κs = search needs
@@ -66,9 +65,8 @@ returns-3 c =
     let g = sym (c .before .before .before .before .before .before .before .before .before .before .guard .ensures) ∙ c .before .before .before .before .before .before .enum-told .given .1 in
     let thence = through-open (length (a .firmware .now)) (length (a .command .now)) ps s (count (a .count)) g in
     let sent = c .before .before .before .before .phase .given .0 .0 in
-    let moved = ap (λ (x : Progress). mk (s .setup) x (s .left) (Waiting (c .before .wait-after .result))) (c .before .before .took .ensures) in
-    let waits = ap (λ (x : Wait). mk (s .setup) (tookOf (s .setup) (s .progress) sent (a .count)) (s .left) (Waiting x)) (c .before .wait-after .ensures) in
-    c .step-to2 .ensures ∙ ap go (moved ∙ waits) ∙ at-phase (download ps) s (count (a .count)) (Sent sent) (c .before .before .before .before .phase .given .1) ∙ thence
+    let moved = ap (λ (x : Progress). onCount (s .setup) (s .progress) (s .left) sent x (a .count)) (c .before .before .took .ensures) in
+    c .step-to2 .ensures ∙ ap go (c .before .counted .ensures ∙ moved) ∙ at-phase (download ps) s (count (a .count)) (Sent sent) (c .before .before .before .before .phase .given .1) ∙ thence
 
 returns-4 : tie.Need-returns-4
 returns-4 c =
@@ -94,7 +92,7 @@ told-count-spec =
     step-to-requires
     enum-known-phase
     took-requires
-    wait-after-requires
+    counted-requires
     step-to-requires-2
     not-awaited-requires
     returns

@@ -18,9 +18,12 @@ add-end c = search needs
 cast-at : tie.Need-cast-at
 cast-at c = search needs
 
+staged-requires : tie.Need-staged-requires
+staged-requires c κs = search needs
+
 returns : tie.Need-returns
 unfolding eraseNext
-returns c = simp (le-ltb _ _ (c .if1 .taken))
+returns c = simp (le-ltb _ _ (c .before .if1 .taken), c .staged .ensures)
 
 returns-2 : tie.Need-returns-2
 unfolding eraseNext
@@ -33,10 +36,10 @@ shared-slice-read-to : tie.Need-shared-slice-read-to
 shared-slice-read-to c = search needs
 
 cast-to : tie.Need-cast-to
-cast-to c = omega (arith, c .shared-slice-known .given (c .before .before .before .before .before .before .args .progress .page))
+cast-to c = omega (arith, c .shared-slice-known2 .given (c .before .before .before .before .before .before .before .args .progress .page))
 
 add-to : tie.Need-add-to
-add-to c = omega (arith, c .shared-slice-known .given (c .before .before .before .before .before .before .args .progress .page))
+add-to c = omega (arith, c .shared-slice-known2 .given (c .before .before .before .before .before .before .before .args .progress .page))
 
 returns-3 : tie.Need-returns-3
 unfolding eraseNext
@@ -60,6 +63,7 @@ erase-spec =
     cast-end-2
     add-end
     cast-at
+    staged-requires
     returns
     returns-2
     mul-to

@@ -13,17 +13,8 @@ enum-told-2 c = search needs
 enum-known-command : tie.Need-enum-known-command
 enum-known-command c = search needs
 
-cast-least : tie.Need-cast-least
-cast-least c = search needs
-
-least-requires : tie.Need-least-requires
-least-requires c κs = search needs
-
-cast-advance : tie.Need-cast-advance
-cast-advance c = search needs
-
-advance-requires : tie.Need-advance-requires
-advance-requires c κs = search needs
+enter-requires : tie.Need-enter-requires
+enter-requires c κs = search needs
 
 enum-told-3 : tie.Need-enum-told-3
 enum-told-3 c = search needs
@@ -38,7 +29,7 @@ returns-2 c = rw (c .enum-told2 .given .1)
 
 returns-3 : tie.Need-returns-3
 unfolding tookOf
-returns-3 c = rw (c .before .before .before .command .given .1, ← (c .before .least .ensures)) (c .advance .ensures)
+returns-3 c = rw (c .before .before .command .given .1) (c .enter .ensures)
 
 returns-4 : tie.Need-returns-4
 unfolding tookOf
@@ -51,10 +42,7 @@ took-spec =
     enum-told
     enum-told-2
     enum-known-command
-    cast-least
-    least-requires
-    cast-advance
-    advance-requires
+    enter-requires
     enum-told-3
     returns
     returns-2

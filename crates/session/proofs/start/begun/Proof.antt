@@ -23,16 +23,23 @@ returns-2 : tie.Need-returns-2
 unfolding begunOf
 returns-2 c = simp (← (c .before .before .before .is-nothing .ensures), c .before .before .if1 .left, ← (c .before .is-beyond .ensures), c .if2 .taken)
 
+is-many-requires : tie.Need-is-many-requires
+is-many-requires c κs = search needs
+
 returns-3 : tie.Need-returns-3
 unfolding begunOf
-returns-3 c = simp (← (c .before .before .before .before .is-nothing .ensures), c .before .before .before .if1 .left, ← (c .before .before .is-beyond .ensures), c .before .if2 .left) (unpaid _ _ (c .if3 .taken))
-
-sub-t12 : tie.Need-sub-t12
-sub-t12 c = search needs
+returns-3 c = simp (← (c .before .before .before .before .before .is-nothing .ensures), c .before .before .before .before .if1 .left, ← (c .before .before .before .is-beyond .ensures), c .before .before .if2 .left, ← (c .before .is-many .ensures), c .if3 .taken)
 
 returns-4 : tie.Need-returns-4
 unfolding begunOf
-returns-4 c = simp (← (c .before .before .before .before .is-nothing .ensures), c .before .before .before .if1 .left, ← (c .before .before .is-beyond .ensures), c .before .if2 .left, c .before .before .before .before .before .unstarted .ensures) (paid _ _ (omega arith))
+returns-4 c = simp (← (c .before .before .before .before .before .before .is-nothing .ensures), c .before .before .before .before .before .if1 .left, ← (c .before .before .before .before .is-beyond .ensures), c .before .before .before .if2 .left, ← (c .before .before .is-many .ensures), c .before .if3 .left) (unpaid _ _ (c .if4 .taken))
+
+sub-t14 : tie.Need-sub-t14
+sub-t14 c = search needs
+
+returns-5 : tie.Need-returns-5
+unfolding begunOf
+returns-5 c = simp (← (c .before .before .before .before .before .before .is-nothing .ensures), c .before .before .before .before .before .if1 .left, ← (c .before .before .before .before .is-beyond .ensures), c .before .before .before .if2 .left, ← (c .before .before .is-many .ensures), c .before .if3 .left, c .before .before .before .before .before .before .before .unstarted .ensures) (paid _ _ (omega arith))
 
 pub begun-spec : {M : Type 1} → statement M
 begun-spec =
@@ -43,6 +50,8 @@ begun-spec =
     returns
     is-beyond-requires
     returns-2
+    is-many-requires
     returns-3
-    sub-t12
-    returns-4)
+    returns-4
+    sub-t14
+    returns-5)

@@ -1,7 +1,7 @@
--- `advance` meets its contract: the place is the smaller of the two.
+-- `enter` meets its contract: the ledger is the smaller of the two.
 use borrow.Author.Needs.{needs}
-use Rattle.session.proofs.download.advance.Statement.{statement}
-use Rattle.session.proofs.download.advance.Tie as tie
+use Rattle.session.proofs.download.enter.Statement.{statement}
+use Rattle.session.proofs.download.enter.Tie as tie
 
 cast-least : tie.Need-cast-least
 cast-least c = search needs
@@ -21,6 +21,5 @@ cast-t10 c = search needs
 returns : tie.Need-returns
 returns c = simp (c .least .ensures)
 
-pub advance-spec : {M : Type 1} → statement M
-advance-spec =
-    tie.close (tie.spec cast-least cast-least-2 add-least least-requires cast-t10 returns)
+pub enter-spec : {M : Type 1} → statement M
+enter-spec = tie.close (tie.spec cast-least cast-least-2 add-least least-requires cast-t10 returns)

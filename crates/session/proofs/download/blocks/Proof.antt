@@ -1,11 +1,11 @@
--- `blocks_of` meets its contract: a size of 0 has no blocks, any other is divided by.
+-- `blocks` meets its contract: a size of 0 has no blocks, any other is divided by.
 use mathlib.Core.Path.{ap, sym, _∙_}
 use Prim.Native.Nat.{ℕ}
 use borrow.Author.Needs.{needs}
-use Rattle.plan.specs.Plan.{blockCount}
-use Rattle.plan.proofs.Blocks.{blockCount-sizeless}
-use Rattle.budget.proofs.blocks_of.Statement.{statement}
-use Rattle.budget.proofs.blocks_of.Tie as tie
+use Rattle.session.specs.Download.{blockCount}
+use Rattle.session.proofs.Fills.{blockCount-sizeless}
+use Rattle.session.proofs.download.blocks.Statement.{statement}
+use Rattle.session.proofs.download.blocks.Tie as tie
 
 returns : tie.Need-returns
 returns c = sym (ap (λ (s : ℕ). blockCount (c .before .args .len) s) (c .if1 .taken) ∙ blockCount-sizeless (c .before .args .len))
@@ -23,5 +23,5 @@ returns-2 : tie.Need-returns-2
 unfolding blockCount
 returns-2 c = search needs
 
-pub blocks-of-spec : {M : Type 1} → statement M
-blocks-of-spec = tie.close (tie.spec returns sub-result add-result div-result returns-2)
+pub blocks-spec : {M : Type 1} → statement M
+blocks-spec = tie.close (tie.spec returns sub-result add-result div-result returns-2)

@@ -1,0 +1,141 @@
+-- Refusal 3 can't occur, and DfuSe's blocks are written where they belong: start has seen to both. Assumes nothing.
+use Prim.Native.Nat.{ℕ, _+_, _*_, _<_, _≤_}
+use native.Mathlib.Omega.{arith}
+use mathlib.Core.Path.{_≡_, refl, ap, sym, subst, _∙_}
+use mathlib.Core.Logic.{⊎-elim}
+use mathlib.Core.Bool.{true}
+use mathlib.Core.List.{List, [], _∷_, _++_}
+use lib.ListN.{length, getD}
+use lib.Dec.{ltb}
+use borrow.Author.Tests.{ltb-true}
+use Rattle.ground.proofs.Tests.{picked}
+use Rattle.protocol.specs.declared.DfuProtocol.{DfuProtocol}
+use Rattle.session.specs.Machine.{Answer, mk, told, saidError, saidAsk}
+use Rattle.session.specs.Download.{limit, endOf, blockCount, eraseNext, writeNext, nextAt, nextOf, download}
+use Rattle.session.specs.Start.{dfuseb, targetOf, setupOf, fresh, saidStart}
+use Rattle.session.specs.declared.Command.{Command}
+use Rattle.session.specs.declared.Error.{Error}
+use Rattle.session.specs.declared.Error.the-variants.{InvalidState, EraseLimitReached, NoSpaceLeft, ResponseTooShort, BudgetSpent, NotAwaited, NotAsAtStart, Failed, StatusError, WrongCount}
+use Rattle.session.specs.declared.End.the-variants.{Stays}
+use Rattle.session.specs.declared.Phase.the-variants.{First, Finished}
+use Rattle.session.specs.declared.Stage.{Stage}
+use Rattle.session.specs.declared.Stage.the-variants.{Erasing, Writing, Ending}
+use Rattle.session.specs.declared.Progress.{Progress}
+use Rattle.session.specs.declared.Setup.{Setup}
+use Rattle.session.specs.declared.Session.{Session}
+use Rattle.session.specs.declared.Ask.{Ask}
+use Rattle.session.specs.declared.Ask.the-variants.{Transfer, Wait as WaitFor, Reset as ResetBus, Finished as HasFinished, Refused as SaysNo}
+use Rattle.session.specs.declared.start.DfuSansIo.{DfuSansIo}
+use Rattle.session.specs.declared.start.StartError.{StartError}
+use Rattle.session.specs.declared.start.StartError.the-variants.{OutOfCapabilities, TooManyPages, NoSpaceLeft as NoSpace, TooManyBlocks, BudgetSpent as NoBudget}
+use Rattle.plan.specs.Dfuse.{blockAddress}
+use Rattle.plan.specs.Plan.{numberOf}
+use Rattle.plan.specs.Sent.{Begins}
+use Rattle.plan.proofs.Blocks.{block-number, block-address}
+use Rattle.promises.specs.Run.{Event, World, opened, tell, commanded}
+use Rattle.promises.specs.Calls.{Call, calls}
+use Rattle.promises.specs.Limits.{EndsBelow, AllBelow}
+use Rattle.promises.proofs.Steady.{KeptBy, Steady, tell-steady, tell-setup}
+use Rattle.promises.proofs.Calls.{calls-keep}
+use Rattle.promises.proofs.Started.{started, start-within, begun-within}
+
+-- one more at the end
+one-more : (a : ℕ) (cs : List Command) (c : Command) → AllBelow a cs → EndsBelow a c → AllBelow a (cs ++ (c ∷ []))
+unfolding AllBelow
+one-more a [] c v e = (e, tt)
+one-more a (d ∷ cs) c v e = (v .0, one-more a cs c (v .1) e)
+
+module _ (su : Setup) (k : endOf su < limit) where
+  abbrev Below : ℕ → List Event → Type 0
+  Below l h = AllBelow (su .address) (commanded h)
+
+  wishes : (st : Stage) (ps : List ℕ) (pr : Progress) → KeptBy Below (nextAt st ps su pr)
+  unfolding eraseNext writeNext commanded
+  wishes Erasing ps pr =
+      picked (KeptBy Below) (ltb (pr .erased) (endOf su)) _ _
+      (λ e. picked (KeptBy Below) (ltb (pr .page) (length ps)) _ _
+      (λ f. picked (KeptBy Below) (ltb (pr .erased + getD ps (pr .page) 0) limit) _ _ (λ g l h v. one-more _ (commanded h) _ v tt) (λ g. tt))
+      (λ f. tt))
+      (λ e l h v. one-more _ (commanded h) _ v tt)
+  wishes Writing ps pr =
+      picked (KeptBy Below) (ltb (pr .accepted) (su .length)) _ _
+      (λ e l h v. one-more _ (commanded h) _ v (omega (arith, ltb-true (pr .accepted) (su .length) e, k)))
+      (λ e l h v. one-more _ (commanded h) _ v tt)
+  wishes Ending ps pr = tt
+
+  below : (ps : List ℕ) → Steady Below (download ps) su
+  unfolding nextOf commanded
+  below ps = record { status = λ l h v. v; clear = λ l h v. v; wish = λ pr. wishes (pr .stage) ps pr; hear = λ l h st v. v }
+
+  abbrev Kept : World → Type 0
+  Kept x = (x .session .setup ≡ su) × AllBelow (su .address) (commanded (x .past))
+
+  tell-kept : (ps : List ℕ) (x : World) (a : Answer) → Kept x → Kept (tell (download ps) x a)
+  tell-kept ps x a (e, v) =
+      (tell-setup (download ps) x a ∙ e, tell-steady Below (download ps) x a (subst (λ (y : Setup). Steady Below (download ps) y) (sym e) (below ps)) v)
+
+module _ (io : DfuSansIo) (p : DfuProtocol) (fw ps : List ℕ) (budget : ℕ) (s : Session) where
+  abbrev su : Setup
+  su = setupOf io p (length fw) (length ps)
+
+  -- a session at its first request has commanded nothing yet
+  at-start : (k : endOf su < limit) (l : ℕ) → s ≡ mk su (fresh su) l First → Kept su k (opened s)
+  unfolding commanded AllBelow
+  at-start k l q = subst (λ (x : Session). Kept su k (opened x)) (sym q) (refl, tt)
+
+  -- one that finished at once never does
+  done : (l : ℕ) (more : List Call) → s ≡ mk su (fresh su) l (Finished Stays) → calls (opened s) more ≡ opened (mk su (fresh su) l (Finished Stays))
+  unfolding told
+  done l more q =
+      let x : World = opened (mk su (fresh su) l (Finished Stays)) in
+      calls-keep (λ (y : World). y ≡ x) (λ ps y a v. ap (λ (z : World). tell (download ps) z a) v) (opened s) more (ap opened q)
+
+  none : (l : ℕ) (more : List Call) → s ≡ mk su (fresh su) l (Finished Stays) → AllBelow (su .address) (commanded ((calls (opened s) more) .past))
+  unfolding commanded AllBelow
+  none l more q = subst (λ (x : World). AllBelow (su .address) (commanded (x .past))) (sym (done l more q)) tt
+
+  -- EVERY BLOCK ENDS BELOW 2^32, whatever is told and whatever is lent: refusal 3 has nothing left to refuse
+  pub blocks-end-below : Begins io p fw ps budget s → (more : List Call) → AllBelow (targetOf p (io .«override_address»)) (commanded ((calls (opened s) more) .past))
+  blocks-end-below b more =
+      let (l, e) = started io p fw ps budget s b in
+      ⊎-elim
+      (λ q. ⊎-elim (λ t. (calls-keep (Kept su (t .below)) (tell-kept su (t .below)) (opened s) more (at-start (t .below) l q)) .1) (λ r. none budget more r)
+      (start-within io p fw ps budget s b))
+      (λ q. none l more q)
+      e
+
+  -- EVERY DFUSE BLOCK HAS A NUMBER OF ITS OWN, the empty one too, and is written where its bytes belong
+  pub blocks-land : 0 < length fw → 0 < io .descriptor .«transfer_size» → Begins io p fw ps budget s → dfuseb p ≡ true
+      → (i : ℕ) → i ≤ blockCount (length fw) (io .descriptor .«transfer_size»)
+      → (numberOf true i ≡ 2 + i)
+      × (blockAddress (targetOf p (io .«override_address»)) (io .descriptor .«transfer_size») (numberOf true i) ≡ targetOf p (io .«override_address») + i * io .descriptor .«transfer_size»)
+  blocks-land h k b d i n =
+      let few : i ≤ 65533 = omega (arith, n, (begun-within io p fw ps budget s h k b) .numbered d) in
+      (block-number i few, block-address (targetOf p (io .«override_address»)) (io .descriptor .«transfer_size») i few)
+
+-- NO REFUSAL IS 3
+never-3-error : (e : Error) → saidError e .number ≡ 3 → ⊥
+never-3-error (InvalidState got expected) e = omega (arith, e)
+never-3-error EraseLimitReached e = omega (arith, e)
+never-3-error NoSpaceLeft e = omega (arith, e)
+never-3-error (ResponseTooShort got) e = omega (arith, e)
+never-3-error BudgetSpent e = omega (arith, e)
+never-3-error NotAwaited e = omega (arith, e)
+never-3-error NotAsAtStart e = omega (arith, e)
+never-3-error Failed e = omega (arith, e)
+never-3-error (StatusError status) e = omega (arith, e)
+never-3-error (WrongCount n m) e = omega (arith, e)
+
+pub never-3 : (k : Ask) → saidAsk k .number ≡ 3 → ⊥
+never-3 (Transfer q) e = omega (arith, e)
+never-3 (WaitFor ms) e = omega (arith, e)
+never-3 ResetBus e = omega (arith, e)
+never-3 (HasFinished x) e = omega (arith, e)
+never-3 (SaysNo x) e = never-3-error x e
+
+pub start-never-3 : (e : StartError) → saidStart e .number ≡ 3 → ⊥
+start-never-3 OutOfCapabilities e = omega (arith, e)
+start-never-3 TooManyPages e = omega (arith, e)
+start-never-3 NoSpace e = omega (arith, e)
+start-never-3 TooManyBlocks e = omega (arith, e)
+start-never-3 NoBudget e = omega (arith, e)
