@@ -30,6 +30,16 @@ use Rattle.session.specs.declared.Ask.{Ask}
 use Rattle.session.specs.declared.Step.{Step}
 use Rattle.budget.specs.declared.Suffices.{Suffices}
 use Rattle.speed.specs.Speed.{told as told-number}
+use Rattle.suffix.specs.declared.Suffix.{Suffix}
+use Rattle.crc32.proofs.of.Kinds as crc-kinds
+use Rattle.crc32.proofs.of.Reads as crc-reads
+use Rattle.suffix.proofs.word_at.Kinds as word-at-kinds
+use Rattle.suffix.proofs.word_at.Reads as word-at-reads
+use Rattle.suffix.proofs.Suffix.read.Kinds as suffix-kinds
+use Rattle.suffix.proofs.Suffix.read.Reads as suffix-reads
+use Rattle.suffix.proofs.Suffix.firmware as firmware-signature
+use Rattle.suffix.proofs.Suffix.firmware.Kinds as firmware-kinds
+use Rattle.suffix.proofs.Suffix.firmware.Reads as firmware-reads
 use Rattle.budget.proofs.enough.Kinds as enough-kinds
 use Rattle.budget.proofs.enough.Reads as enough-reads
 use Rattle.budget.proofs.enough_for.Kinds as enough-for-kinds
@@ -78,6 +88,12 @@ use Rattle.protocol.proofs.detach.Kinds as detach-kinds
 use Rattle.protocol.proofs.detach.Reads as detach-reads
 use Rattle.session.proofs.download.cover.Kinds as cover-kinds
 use Rattle.session.proofs.download.cover.Reads as cover-reads
+use Rattle.session.proofs.download.blocks.Kinds as blocks-kinds
+use Rattle.session.proofs.download.blocks.Reads as blocks-reads
+use Rattle.session.proofs.start.is_many.Kinds as is-many-kinds
+use Rattle.session.proofs.start.is_many.Reads as is-many-reads
+use Rattle.session.proofs.synchronous.whole.Kinds as whole-kinds
+use Rattle.session.proofs.synchronous.whole.Reads as whole-reads
 use Rattle.session.proofs.start.DfuSansIo.new.Kinds as new-kinds
 use Rattle.session.proofs.start.DfuSansIo.new.Reads as new-reads
 use Rattle.session.proofs.start.DfuSansIo.set_address.Kinds as set-address-kinds
@@ -166,6 +182,15 @@ pinned-detach κs a x y s t p q = p ∙ sym q
 pub pinned-cover : Pins cover-kinds.ps cover-kinds.r {R = ℕ} cover-reads.Post (λ κs r s. r)
 pinned-cover κs a x y s t p q = p ∙ sym q
 
+pub pinned-blocks : Pins blocks-kinds.ps blocks-kinds.r {R = ℕ} blocks-reads.Post (λ κs r s. r)
+pinned-blocks κs a x y s t p q = p ∙ sym q
+
+pub pinned-is-many : Pins is-many-kinds.ps is-many-kinds.r {R = Bool} is-many-reads.Post (λ κs r s. r)
+pinned-is-many κs a x y s t p q = p ∙ sym q
+
+pub pinned-whole : Pins whole-kinds.ps whole-kinds.r {R = ℕ} whole-reads.Post (λ κs r s. r)
+pinned-whole κs a x y s t p q = p ∙ sym q
+
 pub pinned-new : Pins new-kinds.ps new-kinds.r {R = DfuSansIo} new-reads.Post (λ κs r s. r)
 pinned-new κs a x y s t p q = p ∙ sym q
 
@@ -222,3 +247,17 @@ pinned-rt-layout κs a x y s t p q = p ∙ sym q
 
 pub pinned-rt-session : Pins rt-session-kinds.ps rt-session-kinds.r {R = ℕ} rt-session-reads.Post (λ κs r s. r)
 pinned-rt-session κs a x y s t p q = p ∙ sym q
+
+-- files
+pub pinned-crc : Pins crc-kinds.ps crc-kinds.r {R = ℕ} crc-reads.Post (λ κs r s. r)
+pinned-crc κs a x y s t p q = p ∙ sym q
+
+pub pinned-word-at : Pins word-at-kinds.ps word-at-kinds.r {R = ℕ} word-at-reads.Post (λ κs r s. r)
+pinned-word-at κs a x y s t p q = p ∙ sym q
+
+pub pinned-suffix : Pins suffix-kinds.ps suffix-kinds.r {R = Suffix} suffix-reads.Post (λ κs r s. r)
+pinned-suffix κs a x y s t p q = p ∙ sym q
+
+pub pinned-firmware : (κs : Lfts 1) (a : Dens {n = 1} κs firmware-kinds.ps) (x y : ResD firmware-signature.signature κs)
+    (s t : AtExit (endedOf 1 firmware-kinds.ps firmware-kinds.r) κs) → firmware-reads.Post κs a x s → firmware-reads.Post κs a y t → now x ≡ now y
+pinned-firmware κs a x y s t p q = p ∙ sym q
