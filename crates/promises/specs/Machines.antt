@@ -9,6 +9,7 @@ use Rattle.protocol.specs.declared.DfuProtocol.{DfuProtocol}
 use Rattle.session.specs.Machine.{Answer, count, reply, waited, wasReset, failed, wholeOf, mk, proceed, go, stay, told}
 use Rattle.session.specs.Download.{download, eraseNext, nextOf, tookOf}
 use Rattle.session.specs.Start.{beginOf}
+use Rattle.session.specs.declared.Command.{Command}
 use Rattle.session.specs.declared.Command.the-variants.{Erase, SetAddress, Block, Empty}
 use Rattle.session.specs.declared.Request.the-variants.{GetStatus}
 use Rattle.session.specs.declared.Error.the-variants.{NotAwaited}
@@ -90,7 +91,7 @@ Spends m =
     (io : DfuSansIo) (p : DfuProtocol) (fw ps : List ℕ) (budget : ℕ) (s : Session) (more : List Answer) → Began m io p fw ps budget s
     → (afterBy (m .told ps) (opened s) more) .session .left + length (transfers ((afterBy (m .told ps) (opened s) more) .past)) ≡ budget
 
--- 7: every block of a finished run was taken whole
+-- every block of a finished run was taken whole
 abbrev pub WholeBlocks : Machine → Type 0
 WholeBlocks m =
     (io : DfuSansIo) (p : DfuProtocol) (fw ps : List ℕ) (budget : ℕ) (s : Session) (more : List Answer) → Began m io p fw ps budget s
@@ -116,40 +117,30 @@ hasty = record { start = beginOf; told = λ ps s a. go (mk (s .setup) (s .progre
 abbrev pub atOnce : List ℕ → Setup → ℕ → Progress → Session
 atOnce ps su l then = proceed su then l (nextOf ps su then)
 
-abbrev pub blindAt : List ℕ → Session → Phase → Answer → Step
-blindAt ps s (Sent c) (count n) = go (atOnce ps (s .setup) (s .left) (tookOf (s .setup) (s .progress) c))
-blindAt ps s (Sent c) (reply bs) = told (download ps) s (reply bs)
-blindAt ps s (Sent c) waited = told (download ps) s waited
-blindAt ps s (Sent c) wasReset = told (download ps) s wasReset
-blindAt ps s (Sent c) failed = told (download ps) s failed
-blindAt ps s First a = told (download ps) s a
-blindAt ps s Clear a = told (download ps) s a
-blindAt ps s Second a = told (download ps) s a
-blindAt ps s (Waiting x) a = told (download ps) s a
-blindAt ps s Resetting a = told (download ps) s a
-blindAt ps s (Finished e) a = told (download ps) s a
-blindAt ps s (Refused e) a = told (download ps) s a
+-- ours, but for the count of a command, from which it makes a step of its own
+abbrev pub countBy : List ℕ → (Command → Step) → Session → Phase → Answer → Step
+countBy ps f s (Sent c) (count n) = f c
+countBy ps f s (Sent c) (reply bs) = told (download ps) s (reply bs)
+countBy ps f s (Sent c) waited = told (download ps) s waited
+countBy ps f s (Sent c) wasReset = told (download ps) s wasReset
+countBy ps f s (Sent c) failed = told (download ps) s failed
+countBy ps f s First a = told (download ps) s a
+countBy ps f s Clear a = told (download ps) s a
+countBy ps f s Second a = told (download ps) s a
+countBy ps f s (Waiting x) a = told (download ps) s a
+countBy ps f s Resetting a = told (download ps) s a
+countBy ps f s (Finished e) a = told (download ps) s a
+countBy ps f s (Refused e) a = told (download ps) s a
 
 abbrev pub blind : Machine
-blind = record { start = beginOf; told = λ ps s a. blindAt ps s (s .phase) a }
+blind = record {
+  start = beginOf;
+  told = λ ps s a. countBy ps (λ c. go (atOnce ps (s .setup) (s .left) (tookOf (s .setup) (s .progress) c))) s (s .phase) a;
+}
 
 -- any count taken for a whole block
-abbrev pub credulousAt : List ℕ → Session → Phase → Answer → Step
-credulousAt ps s (Sent c) (count n) = told (download ps) s (count (wholeOf c))
-credulousAt ps s (Sent c) (reply bs) = told (download ps) s (reply bs)
-credulousAt ps s (Sent c) waited = told (download ps) s waited
-credulousAt ps s (Sent c) wasReset = told (download ps) s wasReset
-credulousAt ps s (Sent c) failed = told (download ps) s failed
-credulousAt ps s First a = told (download ps) s a
-credulousAt ps s Clear a = told (download ps) s a
-credulousAt ps s Second a = told (download ps) s a
-credulousAt ps s (Waiting x) a = told (download ps) s a
-credulousAt ps s Resetting a = told (download ps) s a
-credulousAt ps s (Finished e) a = told (download ps) s a
-credulousAt ps s (Refused e) a = told (download ps) s a
-
 abbrev pub credulous : Machine
-credulous = record { start = beginOf; told = λ ps s a. credulousAt ps s (s .phase) a }
+credulous = record { start = beginOf; told = λ ps s a. countBy ps (λ c. told (download ps) s (count (wholeOf c))) s (s .phase) a }
 
 -- an invented spend: nothing is ever left
 abbrev pub spentAll : Step → Step
