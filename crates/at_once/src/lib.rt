@@ -1,13 +1,13 @@
 // A device and a host that answer at once: what programs tell a session that runs by itself.
 ghost use mathlib.Core.Path.{_≡_};
-ghost use Rattle.session.specs.Download.{out, callOf};
+ghost use Rattle.session.specs.Calls.{out, callOf};
 ghost use Rattle.plan.specs.Answers.{showing, ideal};
 use get_status::State;
-use session::Phase;
+use machine::Phase;
 use session::Session;
 use session::Step;
-use session::Wait;
-use session::synchronous::whole;
+use work::Wait;
+use work::whole;
 
 // The device shows a state.
 fn shown(session: Session, state: State, firmware: &[u8], pages: &[u32], command: &mut [u8]) -> Step

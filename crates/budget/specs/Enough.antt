@@ -5,8 +5,8 @@ use lib.ListN.{length}
 use lib.Dec.{ltb}
 use Rattle.ground.specs.Pick.{pick}
 use Rattle.protocol.specs.declared.DfuProtocol.{DfuProtocol}
-use Rattle.session.specs.declared.start.DfuSansIo.{DfuSansIo}
-use Rattle.session.specs.Start.{dfuseb, overb, manyb}
+use Rattle.start.specs.declared.DfuSansIo.{DfuSansIo}
+use Rattle.start.specs.Start.{dfuseb, overb, manyb}
 use Rattle.plan.specs.Plan.{commands}
 use Rattle.budget.specs.declared.Suffices.{Suffices}
 use Rattle.budget.specs.declared.Suffices.the-variants.{Budget, Never}

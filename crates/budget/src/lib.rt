@@ -3,16 +3,16 @@ ghost use mathlib.Core.Path.{_≡_};
 ghost use mathlib.Core.Bool.{true};
 ghost use Prim.Native.Nat.{_<_, _≤_};
 ghost use lib.ListN.{length};
-ghost use Rattle.session.specs.Start.{dfuseb, overb};
+ghost use Rattle.start.specs.Start.{dfuseb, overb};
 ghost use Rattle.memory_layout.specs.Layout.{maxPages};
 ghost use Rattle.plan.specs.Plan.{commands};
 ghost use Rattle.budget.specs.Enough.{enoughFor, counted, enoughOf};
+use download::cover;
 use memory_layout::MAX_PAGES;
 use protocol::DfuProtocol;
-use session::download::blocks;
-use session::download::cover;
-use session::start::DfuSansIo;
-use session::start::is_many;
+use start::DfuSansIo;
+use start::is_many;
+use work::blocks;
 
 // A budget, or none: start refuses the lengths (1, 22, 29), or the number is no 64-bit count.
 pub enum Suffices {

@@ -6,8 +6,8 @@ use mathlib.Core.Bool.{true}
 use mathlib.Core.List.{List, _++_}
 use lib.ListN.{length, drop, length-take, length-drop, take-append-drop, drop-of-length-le}
 use lib.Seq.{drop-drop}
-use Rattle.session.specs.Download.{blockCount}
-use Rattle.session.proofs.Fills.{blockCount-none, blockCount-next}
+use Rattle.work.specs.Work.{blockCount}
+use Rattle.work.proofs.Fills.{blockCount-none, blockCount-next}
 use Rattle.plan.specs.Dfuse.{blockAddress}
 use Rattle.plan.specs.Plan.{several, numberOf, bytesOf, joined}
 

@@ -5,7 +5,8 @@ use mathlib.Core.Path.{_≡_, refl, ap, _∙_}
 use mathlib.Core.Bool.{Bool, true, false}
 use mathlib.Core.List.{List, [], _∷_, _++_}
 use lib.ListN.{length, length-append}
-use Rattle.session.specs.Download.{covering, blockCount}
+use Rattle.work.specs.Work.{blockCount}
+use Rattle.download.specs.Download.{covering}
 use Rattle.plan.specs.Dfuse.{setAddressCommand}
 use Rattle.plan.specs.Plan.{Dnload, dnload, erasing, several, numberOf, blockOf, sending, plan, commands}
 

@@ -4,7 +4,7 @@ use mathlib.Core.Path.{_≡_, refl, ap}
 use mathlib.Core.List.{List, [], _∷_, _++_}
 use native.Mathlib.Omega.{arith}
 use lib.ListN.{length, take, drop}
-use Rattle.session.specs.Download.{covering}
+use Rattle.download.specs.Download.{covering}
 use Rattle.plan.specs.Plan.{sum}
 
 -- nothing is erased for a target of 0 bytes; otherwise the first page, and then those for what is left

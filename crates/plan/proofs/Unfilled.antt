@@ -5,19 +5,23 @@ use mathlib.Core.Bool.{false, true≢false}
 use mathlib.Core.List.{List}
 use lib.ListN.{length}
 use Rattle.ground.proofs.Tests.{picked}
-use Rattle.session.specs.Machine.{Answer, count, reply, waited, wasReset, failed, Work, issue, waitAfter, takenb, onCount, asksAt, toldAt, told}
-use Rattle.session.specs.Download.{download, liveb, asAtStart, guardOf, through, called, filledBy, filled, out, callOf}
-use Rattle.session.specs.declared.Command.{Command}
-use Rattle.session.specs.declared.Command.the-variants.{Erase, SetAddress, Block, Empty}
-use Rattle.session.specs.declared.Request.the-variants.{GetStatus}
-use Rattle.session.specs.declared.Wait.the-variants.{Pause, Poll}
+use Rattle.work.specs.Work.{Work, waitAfter, takenb}
+use Rattle.machine.specs.declared.Moved.{Moved}
+use Rattle.machine.specs.Machine.{issue, onCount, asksAt, liveb}
+use Rattle.session.specs.Told.{Answer, count, reply, waited, wasReset, failed, toldAt, told}
+use Rattle.download.specs.Download.{download}
+use Rattle.session.specs.Calls.{asAtStart, guardOf, through, called, filledBy, filled, out, callOf}
+use Rattle.wire.specs.declared.Command.{Command}
+use Rattle.wire.specs.declared.Command.the-variants.{Erase, SetAddress, Block, Empty}
+use Rattle.wire.specs.declared.Request.the-variants.{GetStatus}
+use Rattle.work.specs.declared.Wait.the-variants.{Pause, Poll}
 use Rattle.session.specs.declared.Guard.{Guard}
-use Rattle.session.specs.declared.Phase.{Phase}
-use Rattle.session.specs.declared.Phase.the-variants.{First, Clear, Second, Sent, Waiting, Resetting, Finished, Refused}
-use Rattle.session.specs.declared.Progress.{Progress}
-use Rattle.session.specs.declared.Setup.{Setup}
+use Rattle.machine.specs.declared.Phase.{Phase}
+use Rattle.machine.specs.declared.Phase.the-variants.{First, Clear, Second, Sent, Waiting, Resetting, Finished, Refused}
+use Rattle.work.specs.declared.Progress.{Progress}
+use Rattle.work.specs.declared.Setup.{Setup}
 use Rattle.session.specs.declared.Session.{Session}
-use Rattle.session.specs.declared.Ask.the-variants.{Transfer}
+use Rattle.machine.specs.declared.Ask.the-variants.{Transfer}
 use Rattle.plan.specs.Answers.{Unreplied}
 
 -- an ended session fills nothing
@@ -32,20 +36,20 @@ ended-fills (Finished x) cmd e = refl
 ended-fills (Refused x) cmd e = refl
 
 -- a GETSTATUS, or a refusal in its place
-issue-unfilled : (su : Setup) (pr then : Progress) (l : ℕ) (p : Phase) (cmd : List ℕ) → asksAt p ≡ Transfer GetStatus
-    → filledBy (asksAt ((issue su pr l then p) .phase)) cmd ≡ cmd
-issue-unfilled su pr then zero p cmd e = refl
-issue-unfilled su pr then (suc l) p cmd e = rw e
+issue-unfilled : (pr then : Progress) (l : ℕ) (p : Phase) (cmd : List ℕ) → asksAt p ≡ Transfer GetStatus
+    → filledBy (asksAt ((issue pr l then p) .phase)) cmd ≡ cmd
+issue-unfilled pr then zero p cmd e = refl
+issue-unfilled pr then (suc l) p cmd e = rw e
 
-wait-unfilled : (su : Setup) (c : Command) (cmd : List ℕ) → filledBy (asksAt (Waiting (waitAfter su c))) cmd ≡ cmd
-wait-unfilled su (Erase a) cmd = refl
-wait-unfilled su (SetAddress a) cmd = refl
-wait-unfilled su (Block n f m) cmd = refl
-wait-unfilled su (Empty n) cmd = refl
+wait-unfilled : (su : Setup) (c : Command) (n : ℕ) (cmd : List ℕ) → filledBy (asksAt (Waiting (waitAfter su c n))) cmd ≡ cmd
+wait-unfilled su (Erase a) k cmd = refl
+wait-unfilled su (SetAddress a) k cmd = refl
+wait-unfilled su (Block n f m) k cmd = refl
+wait-unfilled su (Empty n) k cmd = refl
 
 count-unfilled : (su : Setup) (pr then : Progress) (l : ℕ) (c : Command) (n : ℕ) (cmd : List ℕ) → filledBy (asksAt ((onCount su pr l c then n) .phase)) cmd ≡ cmd
 count-unfilled su pr then l c n cmd =
-    picked (λ (s : Session). filledBy (asksAt (s .phase)) cmd ≡ cmd) (takenb c n) _ _ (λ e. wait-unfilled su c cmd) (λ e. refl)
+    picked (λ (s : Moved). filledBy (asksAt (s .phase)) cmd ≡ cmd) (takenb c n) _ _ (λ e. wait-unfilled su c n cmd) (λ e. refl)
 
 unfilledAt : (w : Work) (su : Setup) (pr : Progress) (l : ℕ) (p : Phase) (a : Answer) (cmd : List ℕ) → Unreplied a
     → filledBy ((toldAt w su pr l p a) .says) cmd ≡ cmd
@@ -54,7 +58,7 @@ unfilledAt w su pr l First (reply bs) cmd v = absurd v
 unfilledAt w su pr l First waited cmd v = refl
 unfilledAt w su pr l First wasReset cmd v = refl
 unfilledAt w su pr l First failed cmd v = refl
-unfilledAt w su pr l Clear (count n) cmd v = issue-unfilled su pr pr l Second cmd refl
+unfilledAt w su pr l Clear (count n) cmd v = issue-unfilled pr pr l Second cmd refl
 unfilledAt w su pr l Clear (reply bs) cmd v = absurd v
 unfilledAt w su pr l Clear waited cmd v = refl
 unfilledAt w su pr l Clear wasReset cmd v = refl
@@ -64,14 +68,14 @@ unfilledAt w su pr l Second (reply bs) cmd v = absurd v
 unfilledAt w su pr l Second waited cmd v = refl
 unfilledAt w su pr l Second wasReset cmd v = refl
 unfilledAt w su pr l Second failed cmd v = refl
-unfilledAt w su pr l (Sent c) (count n) cmd v = count-unfilled su pr (w .took su pr c) l c n cmd
+unfilledAt w su pr l (Sent c) (count n) cmd v = count-unfilled su pr (w .took su pr c n) l c n cmd
 unfilledAt w su pr l (Sent c) (reply bs) cmd v = absurd v
 unfilledAt w su pr l (Sent c) waited cmd v = refl
 unfilledAt w su pr l (Sent c) wasReset cmd v = refl
 unfilledAt w su pr l (Sent c) failed cmd v = refl
 unfilledAt w su pr l (Waiting (Pause b t ms)) (count n) cmd v = refl
 unfilledAt w su pr l (Waiting (Pause b t ms)) (reply bs) cmd v = absurd v
-unfilledAt w su pr l (Waiting (Pause b t ms)) waited cmd v = issue-unfilled su pr pr l (Waiting (Poll b t)) cmd refl
+unfilledAt w su pr l (Waiting (Pause b t ms)) waited cmd v = issue-unfilled pr pr l (Waiting (Poll b t)) cmd refl
 unfilledAt w su pr l (Waiting (Pause b t ms)) wasReset cmd v = refl
 unfilledAt w su pr l (Waiting (Pause b t ms)) failed cmd v = refl
 unfilledAt w su pr l (Waiting (Poll b t)) (count n) cmd v = refl

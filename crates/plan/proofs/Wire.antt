@@ -8,12 +8,11 @@ use Rattle.ground.specs.Bytes.{bytesLow}
 use Rattle.ground.specs.declared.Version.{Version}
 use Rattle.functional_descriptor.specs.declared.FunctionalDescriptor.{FunctionalDescriptor}
 use Rattle.protocol.specs.declared.DfuProtocol.{DfuProtocol}
-use Rattle.session.specs.declared.Command.the-variants.{Erase, SetAddress, Block, Empty}
-use Rattle.session.specs.declared.Request.the-variants.{GetStatus, ClearStatus, Command as Sends}
-use Rattle.session.specs.declared.start.Override.{Override}
-use Rattle.session.specs.Wire.{wireOf}
-use Rattle.session.specs.Download.{filledFor, requestData}
-use Rattle.session.specs.Start.{beginOf}
+use Rattle.wire.specs.declared.Command.the-variants.{Erase, SetAddress, Block, Empty}
+use Rattle.wire.specs.declared.Request.the-variants.{GetStatus, ClearStatus, Command as Sends}
+use Rattle.start.specs.declared.Override.{Override}
+use Rattle.wire.specs.Wire.{wireOf, filledFor, requestData}
+use Rattle.start.specs.Start.{beginOf}
 use Rattle.plan.specs.Sent.{carried, taken}
 use Rattle.plan.specs.Dfu11.{DFU_DNLOAD, DFU_GETSTATUS, DFU_CLRSTATUS}
 use Rattle.plan.specs.Dfuse.{fourBytes, eraseCommand, setAddressCommand}

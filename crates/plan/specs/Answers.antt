@@ -3,10 +3,11 @@ use mathlib.Core.List.{[], _∷_}
 use Rattle.get_status.specs.Names.{stateByte}
 use Rattle.get_status.specs.declared.State.{State}
 use Rattle.get_status.specs.declared.State.the-variants.{DfuIdle}
-use Rattle.session.specs.Machine.{Answer, count, reply, waited, wasReset, failed, wholeOf}
-use Rattle.session.specs.declared.Wait.the-variants.{Pause, Poll}
-use Rattle.session.specs.declared.Phase.{Phase}
-use Rattle.session.specs.declared.Phase.the-variants.{First, Clear, Second, Sent, Waiting, Resetting, Finished, Refused}
+use Rattle.work.specs.Work.{wholeOf}
+use Rattle.session.specs.Told.{Answer, count, reply, waited, wasReset, failed}
+use Rattle.work.specs.declared.Wait.the-variants.{Pause, Poll}
+use Rattle.machine.specs.declared.Phase.{Phase}
+use Rattle.machine.specs.declared.Phase.the-variants.{First, Clear, Second, Sent, Waiting, Resetting, Finished, Refused}
 
 -- an answer that isn't a reply
 abbrev pub Unreplied : Answer → Type 0

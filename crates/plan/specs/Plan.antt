@@ -4,7 +4,8 @@ use mathlib.Core.Bool.{Bool}
 use mathlib.Core.List.{List, [], _∷_, _++_}
 use lib.ListN.{length, take, drop}
 use Rattle.ground.specs.Pick.{pick}
-use Rattle.session.specs.Download.{covering, blockCount}
+use Rattle.work.specs.Work.{blockCount}
+use Rattle.download.specs.Download.{covering}
 use Rattle.plan.specs.Dfu11.{SetupPacket, DFU_DNLOAD}
 use Rattle.plan.specs.Dfuse.{eraseCommand, setAddressCommand}
 

@@ -4,15 +4,14 @@ use mathlib.Core.Path.{_≡_}
 use mathlib.Core.List.{List, []}
 use lib.ListN.{length}
 use Rattle.protocol.specs.declared.DfuProtocol.{DfuProtocol}
-use Rattle.session.specs.declared.Command.{Command}
-use Rattle.session.specs.declared.Request.the-variants.{Command as Commands}
+use Rattle.wire.specs.declared.Command.{Command}
+use Rattle.wire.specs.declared.Request.the-variants.{Command as Commands}
 use Rattle.session.specs.declared.Session.{Session}
-use Rattle.session.specs.declared.wire.Control.{Control}
-use Rattle.session.specs.declared.start.DfuSansIo.{DfuSansIo}
-use Rattle.session.specs.declared.start.Started.the-variants.{Session as Begun}
-use Rattle.session.specs.Wire.{wireOf}
-use Rattle.session.specs.Download.{filledFor, requestData}
-use Rattle.session.specs.Start.{dfuseb, targetOf, beginOf}
+use Rattle.wire.specs.declared.Control.{Control}
+use Rattle.start.specs.declared.DfuSansIo.{DfuSansIo}
+use Rattle.start.specs.declared.Started.the-variants.{Session as Begun}
+use Rattle.wire.specs.Wire.{wireOf, filledFor, requestData}
+use Rattle.start.specs.Start.{dfuseb, targetOf, beginOf}
 use Rattle.plan.specs.Dfu11.{SetupPacket, packet}
 use Rattle.plan.specs.Plan.{Dnload, plan}
 

@@ -11,31 +11,34 @@ use Rattle.get_status.specs.Names.{statusByte}
 use Rattle.get_status.specs.Reply.{messageOf, strict}
 use Rattle.get_status.specs.declared.GetStatusMessage.{GetStatusMessage}
 use Rattle.get_status.specs.declared.Reply.the-variants.{ResponseTooShort as ShortReply, StatusError as BadStatus, Read}
-use Rattle.session.specs.Machine.{Answer, count, reply, waited, wasReset, failed, Work, mk, refuse, waitAfter, wholeOf, takenb, onCount, laterReply, reading, toldAt, told}
-use Rattle.session.specs.declared.Command.{Command}
-use Rattle.session.specs.declared.Wait.the-variants.{Pause, Poll}
-use Rattle.session.specs.declared.Error.the-variants.{WrongCount}
-use Rattle.session.specs.declared.Phase.{Phase}
-use Rattle.session.specs.declared.Phase.the-variants.{First, Clear, Second, Sent, Waiting, Resetting, Finished, Refused}
-use Rattle.session.specs.declared.Progress.{Progress}
-use Rattle.session.specs.declared.Setup.{Setup}
+use Rattle.work.specs.Work.{Work, waitAfter, wholeOf, takenb}
+use Rattle.machine.specs.declared.Moved.{Moved}
+use Rattle.machine.specs.Machine.{to, refuse, onCount, laterReply, reading}
+use Rattle.session.specs.Told.{Answer, count, reply, waited, wasReset, failed, toldAt, told}
+use Rattle.wire.specs.declared.Command.{Command}
+use Rattle.work.specs.declared.Wait.the-variants.{Pause, Poll}
+use Rattle.work.specs.declared.Error.the-variants.{WrongCount}
+use Rattle.machine.specs.declared.Phase.{Phase}
+use Rattle.machine.specs.declared.Phase.the-variants.{First, Clear, Second, Sent, Waiting, Resetting, Finished, Refused}
+use Rattle.work.specs.declared.Progress.{Progress}
+use Rattle.work.specs.declared.Setup.{Setup}
 use Rattle.session.specs.declared.Session.{Session}
 use Rattle.promises.specs.Run.{World, tell, after, afterBy, Unrefused, Over, Taken}
 use Rattle.promises.specs.Believed.{Sound, SoundAt, WholeAt, AllAtBy, AllSound, AllWhole}
 use Rattle.promises.proofs.Counted.{true-taken}
 
 -- a later reply after which the session isn't refused
-read-sound : (su : Setup) (pr : Progress) (l : ℕ) (bs : List ℕ) (f : GetStatusMessage → Session) → Unrefused ((reading su pr l (laterReply bs) f) .phase) → Sound (reply bs)
-read-sound su pr l bs f u = by (ltb (length bs) 6) refl u
+read-sound : (pr : Progress) (l : ℕ) (bs : List ℕ) (f : GetStatusMessage → Moved) → Unrefused ((reading pr l (laterReply bs) f) .phase) → Sound (reply bs)
+read-sound pr l bs f u = by (ltb (length bs) 6) refl u
   where
     m : GetStatusMessage
     m = messageOf bs
 
-    status : (c : Bool) → eqb (statusByte (m .status)) 0 ≡ c → Unrefused ((reading su pr l (pick c (Read m) (BadStatus (m .status))) f) .phase) → statusByte (m .status) ≡ 0
+    status : (c : Bool) → eqb (statusByte (m .status)) 0 ≡ c → Unrefused ((reading pr l (pick c (Read m) (BadStatus (m .status))) f) .phase) → statusByte (m .status) ≡ 0
     status true e v = eqb-true _ _ e
     status false e v = absurd v
 
-    by : (b : Bool) → ltb (length bs) 6 ≡ b → Unrefused ((reading su pr l (strict (pick b (ShortReply (length bs)) (Read m))) f) .phase) → Sound (reply bs)
+    by : (b : Bool) → ltb (length bs) 6 ≡ b → Unrefused ((reading pr l (strict (pick b (ShortReply (length bs)) (Read m))) f) .phase) → Sound (reply bs)
     by true e v = absurd v
     by false e v = (ltb-false _ _ e, status (eqb (statusByte (m .status)) 0) refl v)
 
@@ -43,14 +46,14 @@ step-sound : (w : Work) (su : Setup) (pr : Progress) (l : ℕ) (p : Phase) (a : 
 step-sound w su pr l First a u = tt
 step-sound w su pr l Clear a u = tt
 step-sound w su pr l Second (count n) u = tt
-step-sound w su pr l Second (reply bs) u = read-sound su pr l bs _ u
+step-sound w su pr l Second (reply bs) u = read-sound pr l bs _ u
 step-sound w su pr l Second waited u = tt
 step-sound w su pr l Second wasReset u = tt
 step-sound w su pr l Second failed u = tt
 step-sound w su pr l (Sent c) a u = tt
 step-sound w su pr l (Waiting (Pause b t ms)) a u = tt
 step-sound w su pr l (Waiting (Poll b t)) (count n) u = tt
-step-sound w su pr l (Waiting (Poll b t)) (reply bs) u = read-sound su pr l bs _ u
+step-sound w su pr l (Waiting (Poll b t)) (reply bs) u = read-sound pr l bs _ u
 step-sound w su pr l (Waiting (Poll b t)) waited u = tt
 step-sound w su pr l (Waiting (Poll b t)) wasReset u = tt
 step-sound w su pr l (Waiting (Poll b t)) failed u = tt
@@ -62,7 +65,7 @@ step-sound w su pr l (Refused e) a u = tt
 count-whole : (su : Setup) (pr then : Progress) (l : ℕ) (c : Command) (n : ℕ) → Unrefused ((onCount su pr l c then n) .phase) → Taken c n
 count-whole su pr then l c n u = by (takenb c n) refl u
   where
-    by : (b : Bool) → takenb c n ≡ b → Unrefused ((pick b (mk su then l (Waiting (waitAfter su c))) (refuse su pr l (WrongCount n (wholeOf c)))) .phase) → Taken c n
+    by : (b : Bool) → takenb c n ≡ b → Unrefused ((pick b (to then l (Waiting (waitAfter su c n))) (refuse pr l (WrongCount n (wholeOf c)))) .phase) → Taken c n
     by true e v = true-taken c n e
     by false e v = absurd v
 
@@ -70,7 +73,7 @@ step-whole : (w : Work) (su : Setup) (pr : Progress) (l : ℕ) (p : Phase) (a : 
 step-whole w su pr l First a u = tt
 step-whole w su pr l Clear a u = tt
 step-whole w su pr l Second a u = tt
-step-whole w su pr l (Sent c) (count n) u = count-whole su pr (w .took su pr c) l c n u
+step-whole w su pr l (Sent c) (count n) u = count-whole su pr (w .took su pr c n) l c n u
 step-whole w su pr l (Sent c) (reply bs) u = tt
 step-whole w su pr l (Sent c) waited u = tt
 step-whole w su pr l (Sent c) wasReset u = tt

@@ -6,15 +6,17 @@ use mathlib.Core.List.{List, [], _∷_, _++_}
 use lib.ListN.{length}
 use Rattle.ground.specs.Pick.{pick}
 use Rattle.ground.proofs.Tests.{picked}
-use Rattle.session.specs.Machine.{Answer, asksAt, told}
-use Rattle.session.specs.Download.{download, liveb, asAtStart, guardOf, through, called, Outcome, out, filled, callOf}
-use Rattle.session.specs.declared.Error.the-variants.{NotAsAtStart}
+use Rattle.machine.specs.Machine.{asksAt, liveb}
+use Rattle.session.specs.Told.{Answer, told}
+use Rattle.download.specs.Download.{download}
+use Rattle.session.specs.Calls.{asAtStart, guardOf, through, called, Outcome, out, filled, callOf}
+use Rattle.work.specs.declared.Error.the-variants.{NotAsAtStart}
 use Rattle.session.specs.declared.Guard.{Guard}
 use Rattle.session.specs.declared.Guard.the-variants.{Open, Shut}
-use Rattle.session.specs.declared.Phase.{Phase}
-use Rattle.session.specs.declared.Phase.the-variants.{First, Clear, Second, Sent, Waiting, Resetting, Finished, Refused}
+use Rattle.machine.specs.declared.Phase.{Phase}
+use Rattle.machine.specs.declared.Phase.the-variants.{First, Clear, Second, Sent, Waiting, Resetting, Finished, Refused}
 use Rattle.session.specs.declared.Session.{Session}
-use Rattle.session.specs.declared.Ask.the-variants.{Refused as SaysNo}
+use Rattle.machine.specs.declared.Ask.the-variants.{Refused as SaysNo}
 use Rattle.promises.specs.Run.{Event, sentBy, World, tell, transfers}
 use Rattle.promises.specs.Calls.{Call, outcome, heardThrough, call, calls, Allowed, Repeats}
 use Rattle.plan.proofs.Unfilled.{ended-fills}

@@ -8,17 +8,18 @@ use lib.Dec.{eqb}
 use lib.ListN.{length}
 use Rattle.ground.proofs.Tests.{picked}
 use Rattle.protocol.specs.declared.DfuProtocol.{DfuProtocol}
-use Rattle.session.specs.Machine.{Answer, Work, waitAfter}
-use Rattle.session.specs.Download.{download}
-use Rattle.session.specs.Start.{setupOf}
-use Rattle.session.specs.declared.Command.{Command}
-use Rattle.session.specs.declared.Command.the-variants.{Erase, SetAddress, Block, Empty}
-use Rattle.session.specs.declared.Progress.{Progress}
-use Rattle.session.specs.declared.Setup.{Setup}
+use Rattle.work.specs.Work.{Work, waitAfter}
+use Rattle.session.specs.Told.{Answer}
+use Rattle.download.specs.Download.{download}
+use Rattle.start.specs.Start.{setupOf}
+use Rattle.wire.specs.declared.Command.{Command}
+use Rattle.wire.specs.declared.Command.the-variants.{Erase, SetAddress, Block, Empty}
+use Rattle.work.specs.declared.Progress.{Progress}
+use Rattle.work.specs.declared.Setup.{Setup}
 use Rattle.session.specs.declared.Session.{Session}
-use Rattle.session.specs.declared.Todo.{Todo}
-use Rattle.session.specs.declared.Todo.the-variants.{Send, End as Ends, Refuse}
-use Rattle.session.specs.declared.start.DfuSansIo.{DfuSansIo}
+use Rattle.work.specs.declared.Todo.{Todo}
+use Rattle.work.specs.declared.Todo.the-variants.{Send, End as Ends, Refuse}
+use Rattle.start.specs.declared.DfuSansIo.{DfuSansIo}
 use Rattle.promises.specs.Run.{Event, opened, after, cleared}
 use Rattle.plan.specs.Sent.{Begins}
 use Rattle.promises.proofs.Walk.{Claims, Holds, Wished, WaitingAt, Good, run-always, either-end}
@@ -32,24 +33,24 @@ once = record {
   atWish = λ pr l h. cleared h ≤ 1;
   pausing = λ b t pr l h. cleared h ≤ 1;
   looking = λ b t pr l h. cleared h ≤ 1;
-  resetting = λ l h. cleared h ≤ 1;
-  finished = λ e l h. cleared h ≤ 1;
+  resetting = λ pr l h. cleared h ≤ 1;
+  finished = λ e pr l h. cleared h ≤ 1;
   refused = λ e l h. cleared h ≤ 1;
   always = λ l h. cleared h ≤ 1;
 }
 
 module _ (w : Work) (su : Setup) where
-  waits : (c : Command) (pr : Progress) (l : ℕ) (h : List Event) → cleared h ≤ 1 → WaitingAt w su once (waitAfter su c) pr l h
-  waits (Erase a) pr l h v = v
-  waits (SetAddress a) pr l h v = v
-  waits (Block n f m) pr l h v = v
-  waits (Empty n) pr l h v = v
+  waits : (c : Command) (n : ℕ) (pr : Progress) (l : ℕ) (h : List Event) → cleared h ≤ 1 → WaitingAt w su once (waitAfter su c n) pr l h
+  waits (Erase a) k pr l h v = v
+  waits (SetAddress a) k pr l h v = v
+  waits (Block n f m) k pr l h v = v
+  waits (Empty n) k pr l h v = v
 
-  wished : (l : ℕ) (h : List Event) (t : Todo) → cleared h ≤ 1 → Wished w su once l h t
+  wished : (pr : Progress) (l : ℕ) (h : List Event) (t : Todo) → cleared h ≤ 1 → Wished w su once pr l h t
   unfolding cleared
-  wished l h (Send c then) v = λ m e. (v, waits c (w .took su then c) m _ v)
-  wished l h Ends v = either-end w su once l h v v
-  wished l h (Refuse e) v = v
+  wished pr l h (Send c then) v = λ m e. (v, λ n f. waits c n (w .took su then c n) m _ v)
+  wished pr l h (Ends e) v = either-end w su once pr l h e v v
+  wished pr l h (Refuse e) v = v
 
   holds : Holds w su once
   unfolding cleared
@@ -57,19 +58,19 @@ module _ (w : Work) (su : Setup) where
     first = λ pr l h st v. picked (λ (X : Type 0). X) (eqb st 10) _ _ (λ e. omega (arith, v)) (λ e. omega (arith, v));
     clear = λ pr l h v. v;
     second = λ pr l h v. v;
-    wish = λ pr l h v. wished l h (w .next su pr) v;
+    wish = λ pr l h v. wished pr l h (w .next su pr) v;
     look = λ b t pr l h v. v;
     busy = λ b t pr l h v. v;
     settle = λ b t pr l h v. v;
-    reset = λ l h v. v;
+    reset = λ pr l h v. v;
     cutFirst = λ pr l h v. omega (arith, v);
     cutClear = λ pr l h v. v;
     cutSecond = λ pr l h v. v;
     cutWish = λ pr l h v. v;
     cutPausing = λ b t pr l h v. v;
     cutLooking = λ b t pr l h v. v;
-    cutResetting = λ l h v. v;
-    cutFinished = λ e l h v. v;
+    cutResetting = λ pr l h v. v;
+    cutFinished = λ e pr l h v. v;
     cutRefused = λ e l h v. v;
     deny = λ e l h d v. v;
     hear = λ l h st v. v;

@@ -3,9 +3,9 @@ use Prim.Native.Nat.{ℕ}
 use mathlib.Core.Path.{_≡_, refl}
 use mathlib.Core.Bool.{true}
 use borrow.Author.Tests.{eqb-true, eq-eqb}
-use Rattle.session.specs.Machine.{wholeOf, takenb}
-use Rattle.session.specs.declared.Command.{Command}
-use Rattle.session.specs.declared.Command.the-variants.{Erase, SetAddress, Block, Empty}
+use Rattle.work.specs.Work.{wholeOf, takenb}
+use Rattle.wire.specs.declared.Command.{Command}
+use Rattle.wire.specs.declared.Command.the-variants.{Erase, SetAddress, Block, Empty}
 use Rattle.promises.specs.Run.{Taken}
 
 pub true-taken : (c : Command) (n : ℕ) → takenb c n ≡ true → Taken c n

@@ -4,9 +4,9 @@ use mathlib.Core.Path.{_≡_, ap, sym, subst, _∙_}
 use mathlib.Core.List.{List, _++_, map}
 use lib.ListN.{length}
 use Rattle.protocol.specs.declared.DfuProtocol.{DfuProtocol}
-use Rattle.session.specs.Download.{download}
+use Rattle.download.specs.Download.{download}
 use Rattle.session.specs.declared.Session.{Session}
-use Rattle.session.specs.declared.start.DfuSansIo.{DfuSansIo}
+use Rattle.start.specs.declared.DfuSansIo.{DfuSansIo}
 use Rattle.plan.specs.Plan.{Dnload}
 use Rattle.promises.specs.Run.{World, opened, after, transfers, commanded, cleared, Over}
 use Rattle.promises.specs.Calls.{Call, calls, passed, AllPass}

@@ -7,12 +7,12 @@ use lib.Dec.{ltb}
 use lib.ListN.{length}
 use Rattle.ground.proofs.Tests.{picked}
 use Rattle.protocol.specs.declared.DfuProtocol.{DfuProtocol}
-use Rattle.session.specs.Machine.{Answer, mk}
-use Rattle.session.specs.Download.{download}
-use Rattle.session.specs.Start.{dfuseb, overb, manyb, setupOf, fresh}
-use Rattle.session.specs.declared.Phase.the-variants.{First}
+use Rattle.session.specs.Told.{Answer, mk}
+use Rattle.download.specs.Download.{download}
+use Rattle.start.specs.Start.{dfuseb, overb, manyb, setupOf, fresh}
+use Rattle.machine.specs.declared.Phase.the-variants.{First}
 use Rattle.session.specs.declared.Session.{Session}
-use Rattle.session.specs.declared.start.DfuSansIo.{DfuSansIo}
+use Rattle.start.specs.declared.DfuSansIo.{DfuSansIo}
 use Rattle.plan.specs.Sent.{Begins}
 use Rattle.promises.specs.Fair.{heeded, Fair, Ready, requestsOf}
 use Rattle.promises.specs.Finish.{Finishes}

@@ -9,25 +9,25 @@ use lib.ListN.{length, length-map}
 use borrow.Author.Tests.{le-ltb, lt-leb, ne-eqb}
 use Rattle.ground.proofs.Tests.{picked}
 use Rattle.protocol.specs.declared.DfuProtocol.{DfuProtocol}
-use Rattle.session.specs.Machine.{Answer, Work, mk}
-use Rattle.session.specs.Download.{download, limit, endOf}
-use Rattle.session.specs.Start.{dfuseb, setupOf, fresh, nothingb, beyondb, overb, manyb, begunOf, beginOf}
-use Rattle.session.specs.declared.Phase.the-variants.{First}
-use Rattle.session.specs.declared.Setup.{Setup}
+use Rattle.work.specs.Work.{Work, limit, endOf}
+use Rattle.session.specs.Told.{Answer, mk}
+use Rattle.download.specs.Download.{download, endFor}
+use Rattle.start.specs.Start.{dfuseb, setupOf, fresh, nothingb, beyondb, overb, manyb, begunOf, beginOf}
+use Rattle.machine.specs.declared.Phase.the-variants.{First}
+use Rattle.work.specs.declared.Setup.{Setup}
 use Rattle.session.specs.declared.Session.{Session}
-use Rattle.session.specs.declared.start.DfuSansIo.{DfuSansIo}
+use Rattle.start.specs.declared.DfuSansIo.{DfuSansIo}
 use Rattle.plan.proofs.Count.{plan-length}
-use Rattle.promises.specs.Run.{World, opened, after, transfers, cleared, Unrefused, Over}
+use Rattle.promises.specs.Run.{opened, after, transfers, cleared}
 use Rattle.plan.specs.Sent.{onWire, Begins}
 use Rattle.promises.specs.Fair.{heeded, Fair, Ready, requestsOf, bound}
 use Rattle.promises.specs.Finish.{Finishes}
 use Rattle.promises.proofs.Started.{begun}
 use Rattle.promises.proofs.Wanted.{left, wanted, fresh-wanted}
 use Rattle.promises.proofs.Onwire.{wanted-plan}
-use Rattle.promises.proofs.Lives.{lived, room-unrefused, at-rest}
 use Rattle.promises.proofs.Roomy.{room, thrives, fresh-room}
-use Rattle.promises.proofs.Heeded.{heeded-run}
-use Rattle.promises.proofs.Ends.{ends-so}
+use Rattle.promises.proofs.Ends.{download-ends}
+use Rattle.promises.proofs.Any.{FinishesIn, any-finishes}
 
 module _ (io : DfuSansIo) (p : DfuProtocol) (fw ps : List ℕ) where
   abbrev su : Setup
@@ -78,24 +78,10 @@ module _ (io : DfuSansIo) (p : DfuProtocol) (fw ps : List ℕ) where
           → Finishes k io p fw ps (mk su (fresh su) l First) more
       from l z f m =
           let w : Work = download ps in
-          let x : World = opened (mk su (fresh su) l First) in
-          let told : List Answer = heeded w (mk su (fresh su) l First) more in
-          let same : after w x told ≡ after w x more = sym (heeded-run w x more) in
           let n : length (left ps su (fresh su)) ≡ requestsOf io p fw ps = count (r .sized) in
-          let n₁ : length (left ps su (fresh su)) * (k + 2) ≡ requestsOf io p fw ps * (k + 2) = ap (λ (y : ℕ). y * (k + 2)) n in
-          let n₂ : length (left ps su (fresh su)) * (2 * k + 3) ≡ requestsOf io p fw ps * (2 * k + 3) = ap (λ (y : ℕ). y * (2 * k + 3)) n in
-          let m′ : 2 + length (left ps su (fresh su)) * (k + 2) + cleared ((after w x told) .past) ≤ budget =
-          omega (arith, m, n₁, ap (λ (y : World). cleared (y .past)) same) in
-          let (v, agreed) =
-          lived w (left ps su) (room ps su) k 0 x told (2 + length (left ps su (fresh su)) * (k + 2)) (4 + length (left ps su (fresh su)) * (2 * k + 3)) budget
-          (thrives ps su (r .sized)) (fresh-room io p fw ps r) f (omega arith) (omega arith) m′ (omega arith) in
-          let y : World = after w x told in
-          record {
-            unrefused = subst (λ (q : World). Unrefused (q .session .phase)) same
-                (room-unrefused w (left ps su) (room ps su) (y .session .setup) (y .session .progress) (y .session .phase) (v .roomy));
-            agreed = agreed;
-            within = omega (arith, v .cost, n₁, ap (λ (q : World). cleared (q .past)) same, ap (λ (q : World). length (transfers (q .past))) same);
-            done = λ h. ends-so w su l more
-                (subst (λ (q : World). Over (q .session .phase)) same
-                (at-rest w (left ps su) (room ps su) k (v .last) (y .session .setup) (y .session .progress) (y .session .phase) (v .roomy) (omega (arith, v .time, n₂, h))));
-          }
+          let v : FinishesIn w k (requestsOf io p fw ps) (endFor su) (mk su (fresh su) l First) more =
+          subst (λ (q : ℕ). FinishesIn w k q (endFor su) (mk su (fresh su) l First) more) n
+          (any-finishes w su (left ps su) (room ps su) (endFor su) k (fresh su) l more (thrives ps su (r .sized)) (fresh-room io p fw ps r) (download-ends ps su) f
+          (subst (λ (q : ℕ). bound k (cleared ((after w (opened (mk su (fresh su) l First)) more) .past)) q ≤ suc l) (sym n)
+          (subst (λ (q : ℕ). bound k (cleared ((after w (opened (mk su (fresh su) l First)) more) .past)) (requestsOf io p fw ps) ≤ q) z m))) in
+          record { unrefused = v .unrefused; agreed = v .agreed; within = v .within; done = v .done }

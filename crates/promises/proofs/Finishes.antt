@@ -6,19 +6,20 @@ use lib.Dec.{eqb}
 use lib.ListN.{length}
 use Rattle.ground.proofs.Tests.{picked}
 use Rattle.protocol.specs.declared.DfuProtocol.{DfuProtocol}
-use Rattle.session.specs.Machine.{Answer, mk, waitAfter}
-use Rattle.session.specs.Download.{download, nextOf, tookOf}
-use Rattle.session.specs.Start.{setupOf, fresh}
-use Rattle.session.specs.declared.Command.{Command}
-use Rattle.session.specs.declared.Command.the-variants.{Erase, SetAddress, Block, Empty}
-use Rattle.session.specs.declared.Request.the-variants.{Command as Commands}
-use Rattle.session.specs.declared.Phase.the-variants.{First}
-use Rattle.session.specs.declared.Setup.{Setup}
-use Rattle.session.specs.declared.Progress.{Progress}
+use Rattle.work.specs.Work.{waitAfter}
+use Rattle.session.specs.Told.{Answer, mk}
+use Rattle.download.specs.Download.{download, nextOf, tookOf}
+use Rattle.start.specs.Start.{setupOf, fresh}
+use Rattle.wire.specs.declared.Command.{Command}
+use Rattle.wire.specs.declared.Command.the-variants.{Erase, SetAddress, Block, Empty}
+use Rattle.wire.specs.declared.Request.the-variants.{Command as Commands}
+use Rattle.machine.specs.declared.Phase.the-variants.{First}
+use Rattle.work.specs.declared.Setup.{Setup}
+use Rattle.work.specs.declared.Progress.{Progress}
 use Rattle.session.specs.declared.Session.{Session}
-use Rattle.session.specs.declared.Todo.{Todo}
-use Rattle.session.specs.declared.Todo.the-variants.{Send, End as Ends, Refuse}
-use Rattle.session.specs.declared.start.DfuSansIo.{DfuSansIo}
+use Rattle.work.specs.declared.Todo.{Todo}
+use Rattle.work.specs.declared.Todo.the-variants.{Send, End as Ends, Refuse}
+use Rattle.start.specs.declared.DfuSansIo.{DfuSansIo}
 use Rattle.plan.specs.Plan.{Dnload}
 use Rattle.promises.specs.Run.{Event, sends, opened, after, commanded, Over}
 use Rattle.plan.specs.Sent.{onWire, planOf, Begins}
@@ -42,32 +43,32 @@ planned ps su all = record {
   atWish = λ pr l h. So all h (left ps su pr);
   pausing = λ b t pr l h. So all h (left ps su pr);
   looking = λ b t pr l h. So all h (left ps su pr);
-  resetting = λ l h. So all h [];
-  finished = λ e l h. So all h [];
+  resetting = λ pr l h. So all h [];
+  finished = λ e pr l h. So all h [];
   refused = λ e l h. Leads all h;
   always = λ l h. Leads all h;
 }
 
 module _ (ps : List ℕ) (su : Setup) (all : List Command) where
-  wait-so : (c : Command) (pr : Progress) (l : ℕ) (h : List Event) → So all h (left ps su pr) → WaitingAt (download ps) su (planned ps su all) (waitAfter su c) pr l h
-  wait-so (Erase a) pr l h v = v
-  wait-so (SetAddress a) pr l h v = v
-  wait-so (Block n f m) pr l h v = v
-  wait-so (Empty n) pr l h v = v
+  wait-so : (c : Command) (k : ℕ) (pr : Progress) (l : ℕ) (h : List Event) → So all h (left ps su pr) → WaitingAt (download ps) su (planned ps su all) (waitAfter su c k) pr l h
+  wait-so (Erase a) k pr l h v = v
+  wait-so (SetAddress a) k pr l h v = v
+  wait-so (Block n f m) k pr l h v = v
+  wait-so (Empty n) k pr l h v = v
 
   wished : (pr : Progress) (l : ℕ) (h : List Event) (t : Todo) → Heads (download ps) (left ps su) su (left ps su pr) t → So all h (left ps su pr)
-      → Wished (download ps) su (planned ps su all) l h t
+      → Wished (download ps) su (planned ps su all) pr l h t
   unfolding commanded
   wished pr l h (Send c then) e v =
       let on : So all (sends (Commands c) ∷ h) (left ps su (tookOf su then c)) =
       append-assoc (commanded h) (c ∷ []) (left ps su (tookOf su then c)) ∙ ap (λ (x : List Command). commanded h ++ x) e ∙ v in
       λ m z. (
         (left ps su (tookOf su then c), on),
-        wait-so c (tookOf su then c) m (sends (Commands c) ∷ h) on,
+        λ k f. wait-so c k (tookOf su then c) m (sends (Commands c) ∷ h) on,
       )
-  wished pr l h Ends e v =
+  wished pr l h (Ends x) e v =
       let all-done : So all h [] = ap (λ (x : List Command). commanded h ++ x) e ∙ v in
-      either-end (download ps) su (planned ps su all) l h all-done all-done
+      either-end (download ps) su (planned ps su all) pr l h x all-done all-done
   wished pr l h (Refuse x) e v = (left ps su pr, v)
 
   holds : 0 < su .size → Holds (download ps) su (planned ps su all)
@@ -86,9 +87,9 @@ module _ (ps : List ℕ) (su : Setup) (all : List Command) where
     cutWish = λ pr l h v. (left ps su pr, v);
     cutPausing = λ b t pr l h v. (left ps su pr, v);
     cutLooking = λ b t pr l h v. (left ps su pr, v);
-    reset = λ l h v. v;
-    cutResetting = λ l h v. ([], v);
-    cutFinished = λ e l h v. ([], v);
+    reset = λ pr l h v. v;
+    cutResetting = λ pr l h v. ([], v);
+    cutFinished = λ e pr l h v. ([], v);
     cutRefused = λ e l h v. v;
     deny = λ e l h d v. v;
     hear = λ l h st v. v;

@@ -11,18 +11,19 @@ use Rattle.get_status.specs.Names.{stateOf, stateByte, settled}
 use Rattle.get_status.specs.declared.State.{State}
 use Rattle.get_status.specs.declared.State.the-variants.{DfuIdle, DfuManifest}
 use Rattle.protocol.specs.declared.DfuProtocol.{DfuProtocol}
-use Rattle.session.specs.Machine.{Answer, Work, waitAfter, told}
-use Rattle.session.specs.Download.{download}
-use Rattle.session.specs.Start.{setupOf}
-use Rattle.session.specs.declared.Command.{Command}
-use Rattle.session.specs.declared.Command.the-variants.{Erase, SetAddress, Block, Empty}
-use Rattle.session.specs.declared.Wait.the-variants.{Pause, Poll}
-use Rattle.session.specs.declared.Phase.{Phase}
-use Rattle.session.specs.declared.Phase.the-variants.{First, Clear, Second, Sent, Waiting, Resetting, Finished, Refused}
-use Rattle.session.specs.declared.Progress.{Progress}
-use Rattle.session.specs.declared.Setup.{Setup}
+use Rattle.work.specs.Work.{Work, waitAfter}
+use Rattle.session.specs.Told.{Answer, mk, told}
+use Rattle.download.specs.Download.{download}
+use Rattle.start.specs.Start.{setupOf}
+use Rattle.wire.specs.declared.Command.{Command}
+use Rattle.wire.specs.declared.Command.the-variants.{Erase, SetAddress, Block, Empty}
+use Rattle.work.specs.declared.Wait.the-variants.{Pause, Poll}
+use Rattle.machine.specs.declared.Phase.{Phase}
+use Rattle.machine.specs.declared.Phase.the-variants.{First, Clear, Second, Sent, Waiting, Resetting, Finished, Refused}
+use Rattle.work.specs.declared.Progress.{Progress}
+use Rattle.work.specs.declared.Setup.{Setup}
 use Rattle.session.specs.declared.Session.{Session}
-use Rattle.session.specs.declared.start.DfuSansIo.{DfuSansIo}
+use Rattle.start.specs.declared.DfuSansIo.{DfuSansIo}
 use Rattle.promises.specs.Run.{Event, World, opened, tell}
 use Rattle.promises.specs.Fair.{awaited, heeded, heededBy, Fine, allowed, Fair, FairBy}
 use Rattle.plan.specs.Answers.{ideal}
@@ -45,16 +46,16 @@ abbrev sane : Claims
 sane = lasting (λ b t. Shown t) Unit (λ e. Unit) (λ e. Unit)
 
 module _ (w : Work) (su : Setup) where
-  waits : (c : Command) → OfWait (λ b t. Shown t) Unit (λ e. Unit) (λ e. Unit) (waitAfter su c)
-  waits (Erase a) = refl
-  waits (SetAddress a) = refl
-  waits (Block n f m) = refl
-  waits (Empty n) = picked Shown (su .tolerant) DfuIdle DfuManifest (λ e. refl) (λ e. refl)
+  waits : (c : Command) (n : ℕ) → OfWait (λ b t. Shown t) Unit (λ e. Unit) (λ e. Unit) (waitAfter su c n)
+  waits (Erase a) k = refl
+  waits (SetAddress a) k = refl
+  waits (Block n f m) k = refl
+  waits (Empty n) k = picked Shown (su .tolerant) DfuIdle DfuManifest (λ e. refl) (λ e. refl)
 
   holds : Holds w su sane
   holds =
       lasting-holds _ _ _ _ w su
-      (record { waits = waits; ends = λ l h. either-end w su sane l h tt tt; reset = λ v. tt; wishes = λ pr. unit-wish (w .next su pr); denies = λ e d. tt })
+      (record { waits = waits; reset = λ v. tt; wishes = λ pr. unit-wish (λ b t. Shown t) (w .next su pr); denies = λ e d. tt })
 
   fine : (j : ℕ) (p : Phase) (pr : Progress) (l : ℕ) (h : List Event) → ClaimAt w su sane p pr l h → Fine j p (ideal p)
   fine j First pr l h v = (le-refl _, tt)
@@ -101,7 +102,17 @@ unfolding ideals
 ideals-length w s zero = refl
 ideals-length w s (suc n) = ap suc (ideals-length w ((told w s (ideal (s .phase))) .next) n)
 
--- FAIR ANSWERS EXIST, for every k and of every length
+-- FAIR ANSWERS EXIST for any work, for every k and of every length
+pub any-fair : (w : Work) (su : Setup) (pr : Progress) (l k n : ℕ)
+    → (more : List Answer) × Fair k 0 w (mk su pr l First) (heeded w (mk su pr l First) more) × (length (heeded w (mk su pr l First) more) ≡ n)
+any-fair w su pr l k n =
+    let s : Session = mk su pr l First in (
+      ideals w s n,
+      subst (λ (x : List Answer). Fair k 0 w s x) (sym (ideals-heeded w s n)) (ideals-fair w su k 0 (opened s) n (record { setup = refl; holds = tt })),
+      subst (λ (x : List Answer). length x ≡ n) (sym (ideals-heeded w s n)) (ideals-length w s n),
+    )
+
+-- and for a download, finished at once too
 pub fair-answers : (k : ℕ) (io : DfuSansIo) (p : DfuProtocol) (fw ps : List ℕ) (budget : ℕ) (s : Session) (n : ℕ) → Begins io p fw ps budget s
     → (more : List Answer) × Fair k 0 (download ps) s (heeded (download ps) s more) × (length (heeded (download ps) s more) ≡ n)
 fair-answers k io p fw ps budget s n b =

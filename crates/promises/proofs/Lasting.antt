@@ -4,18 +4,19 @@ use mathlib.Core.List.{List}
 use lib.Dec.{eqb}
 use Rattle.ground.proofs.Tests.{picked}
 use Rattle.get_status.specs.declared.State.{State}
-use Rattle.session.specs.Machine.{Work, endPhase, waitAfter}
-use Rattle.session.specs.declared.Command.{Command}
-use Rattle.session.specs.declared.Command.the-variants.{Erase, SetAddress, Block, Empty}
-use Rattle.session.specs.declared.Wait.{Wait}
-use Rattle.session.specs.declared.Wait.the-variants.{Pause, Poll}
-use Rattle.session.specs.declared.Error.{Error}
-use Rattle.session.specs.declared.End.{End}
-use Rattle.session.specs.declared.End.the-variants.{Reset}
-use Rattle.session.specs.declared.Progress.{Progress}
-use Rattle.session.specs.declared.Setup.{Setup}
-use Rattle.session.specs.declared.Todo.{Todo}
-use Rattle.session.specs.declared.Todo.the-variants.{Send, End as Ends, Refuse}
+use Rattle.work.specs.Work.{Work, waitAfter}
+use Rattle.machine.specs.Machine.{endPhase}
+use Rattle.wire.specs.declared.Command.{Command}
+use Rattle.wire.specs.declared.Command.the-variants.{Erase, SetAddress, Block, Empty}
+use Rattle.work.specs.declared.Wait.{Wait}
+use Rattle.work.specs.declared.Wait.the-variants.{Pause, Poll}
+use Rattle.work.specs.declared.Error.{Error}
+use Rattle.work.specs.declared.End.{End}
+use Rattle.work.specs.declared.End.the-variants.{Stays, Reset}
+use Rattle.work.specs.declared.Progress.{Progress}
+use Rattle.work.specs.declared.Setup.{Setup}
+use Rattle.work.specs.declared.Todo.{Todo}
+use Rattle.work.specs.declared.Todo.the-variants.{Send, End as Ends, Refuse}
 use Rattle.promises.specs.Run.{Event}
 use Rattle.promises.proofs.Walk.{Claims, Ending, Holds, Wished, EndAt, WaitingAt}
 
@@ -28,8 +29,8 @@ module _ (W : State → State → Type 0) (R : Type 0) (F : End → Type 0) (D :
     atWish = λ pr l h. Unit;
     pausing = λ b t pr l h. W b t;
     looking = λ b t pr l h. W b t;
-    resetting = λ l h. R;
-    finished = λ e l h. F e;
+    resetting = λ pr l h. R;
+    finished = λ e pr l h. F e;
     refused = λ e l h. D e;
     always = λ l h. Unit;
   }
@@ -38,63 +39,68 @@ module _ (W : State → State → Type 0) (R : Type 0) (F : End → Type 0) (D :
   OfWait (Pause b t ms) = W b t
   OfWait (Poll b t) = W b t
 
+  abbrev pub OfEnd : End → Type 0
+  OfEnd Stays = F Stays
+  OfEnd Reset = R
+
   abbrev pub OfWish : Todo → Type 0
   OfWish (Send c then) = Unit
-  OfWish Ends = Unit
+  OfWish (Ends e) = OfEnd e
   OfWish (Refuse e) = D e
 
   -- what is asked of them: each wait begins with its claim, the end has its own, and so has every refusal
   pub record Lasts (w : Work) (su : Setup) : Type 0 where
-    pub waits : (c : Command) → OfWait (waitAfter su c)
-    pub ends : (l : ℕ) (h : List Event) → EndAt w su lasting (endPhase su) l h
+    pub waits : (c : Command) (n : ℕ) → OfWait (waitAfter su c n)
     pub reset : R → F Reset
     pub wishes : (pr : Progress) → OfWish (w .next su pr)
     pub denies : (e : Error) → Ending e → D e
 
   module _ (w : Work) (su : Setup) (g : Lasts w su) where
-    waiting : (c : Command) (pr : Progress) (l : ℕ) (h : List Event) → OfWait (waitAfter su c) → WaitingAt w su lasting (waitAfter su c) pr l h
-    waiting (Erase a) pr l h v = v
-    waiting (SetAddress a) pr l h v = v
-    waiting (Block n f m) pr l h v = v
-    waiting (Empty n) pr l h v = v
+    waiting : (c : Command) (n : ℕ) (pr : Progress) (l : ℕ) (h : List Event) → OfWait (waitAfter su c n) → WaitingAt w su lasting (waitAfter su c n) pr l h
+    waiting (Erase a) k pr l h v = v
+    waiting (SetAddress a) k pr l h v = v
+    waiting (Block n f m) k pr l h v = v
+    waiting (Empty n) k pr l h v = v
 
-    wished : (l : ℕ) (h : List Event) (t : Todo) → OfWish t → Wished w su lasting l h t
-    wished l h (Send c then) v = λ m e. (tt, waiting c (w .took su then c) m _ (g .waits c))
-    wished l h Ends v = g .ends l h
-    wished l h (Refuse e) v = v
+    wished : (pr : Progress) (l : ℕ) (h : List Event) (t : Todo) → OfWish t → Wished w su lasting pr l h t
+    wished pr l h (Send c then) v = λ m e. (tt, λ n f. waiting c n (w .took su then c n) m _ (g .waits c n))
+    wished pr l h (Ends Stays) v = v
+    wished pr l h (Ends Reset) v = v
+    wished pr l h (Refuse e) v = v
 
     pub lasting-holds : Holds w su lasting
     lasting-holds = record {
       first = λ pr l h st v. picked (λ (X : Type 0). X) (eqb st 10) _ _ (λ e. tt) (λ e. tt);
       clear = λ pr l h v. tt;
       second = λ pr l h v. tt;
-      wish = λ pr l h v. wished l h (w .next su pr) (g .wishes pr);
+      wish = λ pr l h v. wished pr l h (w .next su pr) (g .wishes pr);
       look = λ b t pr l h v. v;
       busy = λ b t pr l h v. v;
       settle = λ b t pr l h v. tt;
-      reset = λ l h v. g .reset v;
+      reset = λ pr l h v. g .reset v;
       cutFirst = λ pr l h v. tt;
       cutClear = λ pr l h v. tt;
       cutSecond = λ pr l h v. tt;
       cutWish = λ pr l h v. tt;
       cutPausing = λ b t pr l h v. tt;
       cutLooking = λ b t pr l h v. tt;
-      cutResetting = λ l h v. tt;
-      cutFinished = λ e l h v. tt;
+      cutResetting = λ pr l h v. tt;
+      cutFinished = λ e pr l h v. tt;
       cutRefused = λ e l h v. tt;
       deny = λ e l h d v. g .denies e d;
       hear = λ l h st v. tt;
     }
 
 -- wishes of whose refusals nothing is claimed
-pub unit-wish : (t : Todo) → OfWish (λ b t. Unit) Unit (λ e. Unit) (λ e. Unit) t
-unit-wish (Send c then) = tt
-unit-wish Ends = tt
-unit-wish (Refuse e) = tt
+pub unit-wish : (P : State → State → Type 0) (t : Todo) → OfWish P Unit (λ e. Unit) (λ e. Unit) t
+unit-wish P (Send c then) = tt
+unit-wish P (Ends Stays) = tt
+unit-wish P (Ends Reset) = tt
+unit-wish P (Refuse e) = tt
 
 -- waits of which nothing is claimed
-pub unit-waits : (su : Setup) (c : Command) → OfWait (λ b t. Unit) Unit (λ e. Unit) (λ e. Unit) (waitAfter su c)
-unit-waits su (Erase a) = tt
-unit-waits su (SetAddress a) = tt
-unit-waits su (Block n f m) = tt
-unit-waits su (Empty n) = tt
+pub unit-waits : (su : Setup) (c : Command) (n : ℕ) → OfWait (λ b t. Unit) Unit (λ e. Unit) (λ e. Unit) (waitAfter su c n)
+unit-waits su (Erase a) k = tt
+unit-waits su (SetAddress a) k = tt
+unit-waits su (Block n f m) k = tt
+unit-waits su (Empty n) k = tt

@@ -17,6 +17,7 @@ pub mod Lives
 pub mod Roomy
 pub mod Heeded
 pub mod Ends
+pub mod Any
 pub mod Finish
 pub mod Clears
 pub mod Ideal

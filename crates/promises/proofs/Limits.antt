@@ -10,24 +10,26 @@ use lib.Dec.{ltb}
 use borrow.Author.Tests.{ltb-true}
 use Rattle.ground.proofs.Tests.{picked}
 use Rattle.protocol.specs.declared.DfuProtocol.{DfuProtocol}
-use Rattle.session.specs.Machine.{Answer, mk, told, saidError, saidAsk}
-use Rattle.session.specs.Download.{limit, endOf, blockCount, eraseNext, writeNext, nextAt, nextOf, download}
-use Rattle.session.specs.Start.{dfuseb, targetOf, setupOf, fresh, saidStart}
-use Rattle.session.specs.declared.Command.{Command}
-use Rattle.session.specs.declared.Error.{Error}
-use Rattle.session.specs.declared.Error.the-variants.{InvalidState, EraseLimitReached, NoSpaceLeft, ResponseTooShort, BudgetSpent, NotAwaited, NotAsAtStart, Failed, StatusError, WrongCount}
-use Rattle.session.specs.declared.End.the-variants.{Stays}
-use Rattle.session.specs.declared.Phase.the-variants.{First, Finished}
-use Rattle.session.specs.declared.Stage.{Stage}
-use Rattle.session.specs.declared.Stage.the-variants.{Erasing, Writing, Ending}
-use Rattle.session.specs.declared.Progress.{Progress}
-use Rattle.session.specs.declared.Setup.{Setup}
+use Rattle.work.specs.Work.{saidError, limit, endOf, blockCount}
+use Rattle.machine.specs.Machine.{saidAsk}
+use Rattle.session.specs.Told.{Answer, mk, told}
+use Rattle.download.specs.Download.{eraseNext, writeNext, nextAt, nextOf, download}
+use Rattle.start.specs.Start.{dfuseb, targetOf, setupOf, fresh, saidStart}
+use Rattle.wire.specs.declared.Command.{Command}
+use Rattle.work.specs.declared.Error.{Error}
+use Rattle.work.specs.declared.Error.the-variants.{InvalidState, EraseLimitReached, NoSpaceLeft, ResponseTooShort, BudgetSpent, NotAwaited, NotAsAtStart, Failed, StatusError, WrongCount}
+use Rattle.work.specs.declared.End.the-variants.{Stays}
+use Rattle.machine.specs.declared.Phase.the-variants.{First, Finished}
+use Rattle.work.specs.declared.Stage.{Stage}
+use Rattle.work.specs.declared.Stage.the-variants.{Erasing, Writing, Ending}
+use Rattle.work.specs.declared.Progress.{Progress}
+use Rattle.work.specs.declared.Setup.{Setup}
 use Rattle.session.specs.declared.Session.{Session}
-use Rattle.session.specs.declared.Ask.{Ask}
-use Rattle.session.specs.declared.Ask.the-variants.{Transfer, Wait as WaitFor, Reset as ResetBus, Finished as HasFinished, Refused as SaysNo}
-use Rattle.session.specs.declared.start.DfuSansIo.{DfuSansIo}
-use Rattle.session.specs.declared.start.StartError.{StartError}
-use Rattle.session.specs.declared.start.StartError.the-variants.{OutOfCapabilities, TooManyPages, NoSpaceLeft as NoSpace, TooManyBlocks, BudgetSpent as NoBudget}
+use Rattle.machine.specs.declared.Ask.{Ask}
+use Rattle.machine.specs.declared.Ask.the-variants.{Transfer, Wait as WaitFor, Reset as ResetBus, Finished as HasFinished, Refused as SaysNo}
+use Rattle.start.specs.declared.DfuSansIo.{DfuSansIo}
+use Rattle.start.specs.declared.StartError.{StartError}
+use Rattle.start.specs.declared.StartError.the-variants.{OutOfCapabilities, TooManyPages, NoSpaceLeft as NoSpace, TooManyBlocks, BudgetSpent as NoBudget}
 use Rattle.plan.specs.Dfuse.{blockAddress}
 use Rattle.plan.specs.Plan.{numberOf}
 use Rattle.plan.specs.Sent.{Begins}

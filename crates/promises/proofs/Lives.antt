@@ -17,21 +17,25 @@ use Rattle.get_status.specs.declared.Reply.{Reply}
 use Rattle.get_status.specs.declared.Reply.the-variants.{ResponseTooShort as ShortReply, StatusError as BadStatus, Read}
 use Rattle.get_status.specs.declared.Met.{Met}
 use Rattle.get_status.specs.declared.Met.the-variants.{Busy}
-use Rattle.session.specs.Machine.{Answer, count, reply, waited, wasReset, failed, Work, mk, issue, proceed, waitAfter, onCount, firstReply, laterReply, reading, onFirst, onSecond, onMet, onPoll, asksAt, go, toldAt, told}
-use Rattle.session.specs.declared.Command.{Command}
-use Rattle.session.specs.declared.Command.the-variants.{Erase, SetAddress, Block, Empty}
-use Rattle.session.specs.declared.Request.{Request}
-use Rattle.session.specs.declared.Request.the-variants.{GetStatus, ClearStatus, Command as Commands}
-use Rattle.session.specs.declared.Wait.the-variants.{Pause, Poll}
-use Rattle.session.specs.declared.Phase.{Phase}
-use Rattle.session.specs.declared.Phase.the-variants.{First, Clear, Second, Sent, Waiting, Resetting, Finished, Refused}
-use Rattle.session.specs.declared.Progress.{Progress}
-use Rattle.session.specs.declared.Setup.{Setup}
+use Rattle.work.specs.Work.{Work, wholeOf, waitAfter}
+use Rattle.machine.specs.declared.Moved.{Moved}
+use Rattle.machine.specs.Machine.{issue, proceed, onCount, firstReply, laterReply, reading, onFirst, onSecond, onMet, onPoll, asksAt}
+use Rattle.session.specs.Told.{Answer, count, reply, waited, wasReset, failed, mk, over, go, toldAt, told}
+use Rattle.wire.specs.declared.Command.{Command}
+use Rattle.wire.specs.declared.Command.the-variants.{Erase, SetAddress, Block, Empty}
+use Rattle.wire.specs.declared.Request.{Request}
+use Rattle.wire.specs.declared.Request.the-variants.{GetStatus, ClearStatus, Command as Commands}
+use Rattle.work.specs.declared.Wait.the-variants.{Pause, Poll}
+use Rattle.work.specs.declared.End.the-variants.{Stays, Reset}
+use Rattle.machine.specs.declared.Phase.{Phase}
+use Rattle.machine.specs.declared.Phase.the-variants.{First, Clear, Second, Sent, Waiting, Resetting, Finished, Refused}
+use Rattle.work.specs.declared.Progress.{Progress}
+use Rattle.work.specs.declared.Setup.{Setup}
 use Rattle.session.specs.declared.Session.{Session}
-use Rattle.session.specs.declared.Todo.{Todo}
-use Rattle.session.specs.declared.Todo.the-variants.{Send, End as Ends, Refuse}
-use Rattle.session.specs.declared.Ask.{Ask}
-use Rattle.session.specs.declared.Ask.the-variants.{Transfer, Wait as WaitFor, Reset as ResetBus, Finished as HasFinished, Refused as SaysNo}
+use Rattle.work.specs.declared.Todo.{Todo}
+use Rattle.work.specs.declared.Todo.the-variants.{Send, End as Ends, Refuse}
+use Rattle.machine.specs.declared.Ask.{Ask}
+use Rattle.machine.specs.declared.Ask.the-variants.{Transfer, Wait as WaitFor, Reset as ResetBus, Finished as HasFinished, Refused as SaysNo}
 use Rattle.session.specs.declared.Step.{Step}
 use Rattle.promises.specs.Run.{Event, sends, sentBy, shownBy, shownFirst, shownLater, heardAt, World, tell, after, afterBy, transfers, cleared, Unrefused, Over, Taken}
 use Rattle.promises.specs.Fair.{Fine, allowed, Fair, FairBy, Yes, AllYes, AllYesBy}
@@ -40,16 +44,24 @@ use Rattle.promises.proofs.Wanted.{Heads}
 use Rattle.promises.proofs.Steady.{tell-setup}
 use Rattle.promises.proofs.Spends.{tell-adds}
 
+-- fewer of them, times the same
+mul-le : (a b c : ℕ) → a ≤ b → a * c ≤ b * c
+mul-le a zero c h = let e : a ≡ 0 = omega arith in let z : a * c ≡ 0 * c = ap (λ (x : ℕ). x * c) e in omega (arith, z)
+mul-le zero (suc b) c h = omega arith
+mul-le (suc a) (suc b) c h = omega (arith, mul-le a b c (omega arith))
+
 -- with room the work isn't refused, and keeps room
 abbrev pub Wants : Work → (Progress → Type 0) → Setup → Todo → Type 0
-Wants w room su (Send c then) = room (w .took su then c)
-Wants w room su Ends = Unit
+Wants w room su (Send c then) = room (w .took su then c (wholeOf c))
+Wants w room su (Ends e) = Unit
 Wants w room su (Refuse e) = ⊥
 
--- what is asked of the work: its wishes are a list, and with room it isn't refused
+-- what is asked of the work: its wishes are a list, with room it isn't refused, and a command that brings less than it may leaves no more to do
 pub record Thrives (w : Work) (su : Setup) (left : Progress → List Command) (room : Progress → Type 0) : Type 0 where
   pub heads : (pr : Progress) → Heads w left su (left pr) (w .next su pr)
   pub wants : (pr : Progress) → room pr → Wants w room su (w .next su pr)
+  pub short : (pr : Progress) (c : Command) (n : ℕ) → Taken c n
+      → (length (left (w .took su pr c n)) ≤ length (left (w .took su pr c (wholeOf c)))) × (room (w .took su pr c (wholeOf c)) → room (w .took su pr c n))
 
 module _ (w : Work) (left : Progress → List Command) (room : Progress → Type 0) where
   -- what a session still wants, and its room
@@ -57,7 +69,7 @@ module _ (w : Work) (left : Progress → List Command) (room : Progress → Type
   restAt su pr First = left pr
   restAt su pr Clear = left pr
   restAt su pr Second = left pr
-  restAt su pr (Sent c) = left (w .took su pr c)
+  restAt su pr (Sent c) = left (w .took su pr c (wholeOf c))
   restAt su pr (Waiting x) = left pr
   restAt su pr Resetting = []
   restAt su pr (Finished e) = []
@@ -67,7 +79,7 @@ module _ (w : Work) (left : Progress → List Command) (room : Progress → Type
   RoomAt su pr First = room pr
   RoomAt su pr Clear = room pr
   RoomAt su pr Second = room pr
-  RoomAt su pr (Sent c) = room (w .took su pr c)
+  RoomAt su pr (Sent c) = room (w .took su pr c (wholeOf c))
   RoomAt su pr (Waiting x) = room pr
   RoomAt su pr Resetting = Unit
   RoomAt su pr (Finished e) = Unit
@@ -124,64 +136,57 @@ module _ (w : Work) (left : Progress → List Command) (room : Progress → Type
 
     -- a transfer, with something left to spend
     ask-lives : (j n t : ℕ) (su : Setup) (pr then : Progress) (l : ℕ) (q : Request) (p : Phase) → 0 < l → RoomAt su then p → asksAt p ≡ Transfer q
-        → 1 + needAt k j su then p ≤ n + cleared (sends q ∷ []) → tellsAt k j su then p ≤ t - 1 → Lives j n t (go (issue su pr l then p))
+        → 1 + needAt k j su then p ≤ n + cleared (sends q ∷ []) → tellsAt k j su then p ≤ t - 1 → Lives j n t (go (over su (issue pr l then p)))
     unfolding transfers
     ask-lives j n t su pr then zero q p h v a c d = absurd (omega arith)
     ask-lives j n t su pr then (suc l) q p h v a c d = record { roomy = v; cost = rw a c; time = d; yes = rw a tt }
 
     -- the work goes on
     proceed-lives : (j : ℕ) (su : Setup) (pr : Progress) (l : ℕ) (t : Todo) → Heads w left su (left pr) t → Wants w room su t → length (left pr) * (k + 2) ≤ l
-        → Lives j (length (left pr) * (k + 2)) (2 + length (left pr) * (2 * k + 3)) (go (proceed su pr l t))
+        → Lives j (length (left pr) * (k + 2)) (2 + length (left pr) * (2 * k + 3)) (go (over su (proceed pr l t)))
     unfolding transfers cleared
     proceed-lives j su pr l (Send c then) h v m =
-        let e : suc (length (left (w .took su then c))) ≡ length (left pr) = ap length h in
-        let e₁ : suc (length (left (w .took su then c))) * (k + 2) ≡ length (left pr) * (k + 2) = ap (λ (x : ℕ). x * (k + 2)) e in
-        let e₂ : suc (length (left (w .took su then c))) * (2 * k + 3) ≡ length (left pr) * (2 * k + 3) = ap (λ (x : ℕ). x * (2 * k + 3)) e in
+        let e : suc (length (left (w .took su then c (wholeOf c)))) ≡ length (left pr) = ap length h in
+        let e₁ : suc (length (left (w .took su then c (wholeOf c)))) * (k + 2) ≡ length (left pr) * (k + 2) = ap (λ (x : ℕ). x * (k + 2)) e in
+        let e₂ : suc (length (left (w .took su then c (wholeOf c)))) * (2 * k + 3) ≡ length (left pr) * (2 * k + 3) = ap (λ (x : ℕ). x * (2 * k + 3)) e in
         ask-lives j _ _ su pr then l (Commands c) (Sent c) (omega arith) v refl (omega arith) (omega arith)
-    proceed-lives j su pr l Ends h v m =
-        picked P (su .tolerant) _ _
-        (λ x. record { roomy = tt; cost = omega arith; time = omega arith; yes = tt })
-        (λ x. picked P (su .detach) _ _
-        (λ y. record { roomy = tt; cost = omega arith; time = omega arith; yes = tt })
-        (λ y. record { roomy = tt; cost = omega arith; time = omega arith; yes = tt }))
-      where
-        P : Phase → Type 0
-        P p = Lives j (length (left pr) * (k + 2)) (2 + length (left pr) * (2 * k + 3)) (go (mk su pr l p))
+    proceed-lives j su pr l (Ends Stays) h v m = record { roomy = tt; cost = omega arith; time = omega arith; yes = tt }
+    proceed-lives j su pr l (Ends Reset) h v m = record { roomy = tt; cost = omega arith; time = omega arith; yes = tt }
     proceed-lives j su pr l (Refuse e) h v m = absurd v
 
-    reading-lives : (j n t : ℕ) (su : Setup) (pr : Progress) (l : ℕ) (bs : List ℕ) (f : GetStatusMessage → Session) → 6 ≤ length bs → Lives j n t (go (f (messageOf bs)))
-        → Lives j n t (go (reading su pr l (firstReply bs) f))
+    reading-lives : (j n t : ℕ) (su : Setup) (pr : Progress) (l : ℕ) (bs : List ℕ) (f : GetStatusMessage → Moved) → 6 ≤ length bs → Lives j n t (go (over su (f (messageOf bs))))
+        → Lives j n t (go (over su (reading pr l (firstReply bs) f)))
     reading-lives j n t su pr l bs f h v =
         let e : ltb (length bs) 6 ≡ false = le-ltb _ _ h in
         rw e v
 
-    strict-lives : (j n t : ℕ) (su : Setup) (pr : Progress) (l : ℕ) (bs : List ℕ) (f : GetStatusMessage → Session) → 6 ≤ length bs
-        → statusByte ((messageOf bs) .status) ≡ 0 → Lives j n t (go (f (messageOf bs))) → Lives j n t (go (reading su pr l (laterReply bs) f))
+    strict-lives : (j n t : ℕ) (su : Setup) (pr : Progress) (l : ℕ) (bs : List ℕ) (f : GetStatusMessage → Moved) → 6 ≤ length bs
+        → statusByte ((messageOf bs) .status) ≡ 0 → Lives j n t (go (over su (f (messageOf bs)))) → Lives j n t (go (over su (reading pr l (laterReply bs) f)))
     strict-lives j n t su pr l bs f h z v =
         let e : ltb (length bs) 6 ≡ false = le-ltb _ _ h in
         let o : eqb (statusByte ((messageOf bs) .status)) 0 ≡ true = eq-eqb _ _ z in
         rw (e, o) v
 
     module _ (j : ℕ) (su : Setup) (pr : Progress) (l : ℕ) (v : room pr) where
-      first-lives : (m : GetStatusMessage) → needAt k j su pr First ≤ l → Lives j (needAt k j su pr First) (tellsAt k j su pr First) (go (onFirst su pr l m))
+      first-lives : (m : GetStatusMessage) → needAt k j su pr First ≤ l → Lives j (needAt k j su pr First) (tellsAt k j su pr First) (go (over su (onFirst pr l m)))
       unfolding onFirst cleared
       first-lives m h =
-          picked (λ (p : Phase). Lives j (needAt k j su pr First) (tellsAt k j su pr First) (go (issue su pr l pr p))) (eqb (stateByte (m .state)) 10) _ _
+          picked (λ (p : Phase). Lives j (needAt k j su pr First) (tellsAt k j su pr First) (go (over su (issue pr l pr p)))) (eqb (stateByte (m .state)) 10) _ _
           (λ e. ask-lives j _ _ su pr pr l ClearStatus Clear (omega arith) v refl (omega arith) (omega arith))
           (λ e. ask-lives j _ _ su pr pr l GetStatus Second (omega arith) v refl (omega arith) (omega arith))
 
       second-lives : (m : GetStatusMessage) (t : Todo) → Heads w left su (left pr) t → Wants w room su t → needAt k j su pr Second ≤ l → stateByte (m .state) ≡ 2
-          → Lives j (needAt k j su pr Second) (tellsAt k j su pr Second) (go (onSecond su pr l t m))
+          → Lives j (needAt k j su pr Second) (tellsAt k j su pr Second) (go (over su (onSecond pr l t m)))
       unfolding onSecond
       second-lives m t h n u e =
-          picked (λ (s : Session). Lives j (needAt k j su pr Second) (tellsAt k j su pr Second) (go s)) (eqb (stateByte (m .state)) 2) _ _
+          picked (λ (s : Moved). Lives j (needAt k j su pr Second) (tellsAt k j su pr Second) (go (over su s))) (eqb (stateByte (m .state)) 2) _ _
           (λ f. more-lives (omega arith) (omega arith) (proceed-lives j su pr l t h n (omega arith)))
           (λ f. absurd (eqb-false _ _ f e))
 
       -- one look while waiting
       poll-lives : (b g : State) (m : GetStatusMessage) (t : Todo) → Heads w left su (left pr) t → Wants w room su t → needAt k j su pr (Waiting (Poll b g)) ≤ l
           → (stateByte (m .state) ≡ stateByte g) ⊎ ((stateByte (m .state) ≡ stateByte b) × (0 < j))
-          → Lives (j - 1) (needAt k j su pr (Waiting (Poll b g))) (tellsAt k j su pr (Waiting (Poll b g))) (go (onPoll su pr l b g t m))
+          → Lives (j - 1) (needAt k j su pr (Waiting (Poll b g))) (tellsAt k j su pr (Waiting (Poll b g))) (go (over su (onPoll pr l b g t m)))
       unfolding onPoll transfers cleared
       poll-lives b g m t h n u z =
           picked P (eqb (stateByte (m .state)) (stateByte g)) _ _
@@ -191,22 +196,26 @@ module _ (w : Work) (left : Progress → List Command) (room : Progress → Type
           (λ f. absurd (⊎-elim (λ y. eqb-false _ _ e y) (λ y. eqb-false _ _ f (y .0)) z)))
         where
           P : Met → Type 0
-          P x = Lives (j - 1) (needAt k j su pr (Waiting (Poll b g))) (tellsAt k j su pr (Waiting (Poll b g))) (go (onMet su pr l b g t x))
+          P x = Lives (j - 1) (needAt k j su pr (Waiting (Poll b g))) (tellsAt k j su pr (Waiting (Poll b g))) (go (over su (onMet pr l b g t x)))
 
           again : 0 < j → P (Busy (m .«poll_timeout»))
           again y = record { roomy = v; cost = omega arith; time = omega arith; yes = tt }
 
     -- one fair answer
     module _ (su : Setup) (law : Thrives w su left room) where
-      sent-lives : (pr : Progress) (l : ℕ) (c : Command) (n : ℕ) → Taken c n → room (w .took su pr c)
-          → Lives k (needAt k 0 su pr (Sent c)) (tellsAt k 0 su pr (Sent c)) (go (onCount su pr l c (w .took su pr c) n))
+      sent-lives : (pr : Progress) (l : ℕ) (c : Command) (n : ℕ) → Taken c n → room (w .took su pr c (wholeOf c))
+          → Lives k (needAt k 0 su pr (Sent c)) (tellsAt k 0 su pr (Sent c)) (go (over su (onCount su pr l c (w .took su pr c n) n)))
       unfolding transfers cleared
       sent-lives pr l c n u v = rw (taken-true c n u) (by c)
         where
-          at-first : (b t : State) → Lives k (needAt k 0 su pr (Sent c)) (tellsAt k 0 su pr (Sent c)) (go (mk su (w .took su pr c) l (Waiting (Pause b t 0))))
-          at-first b t = record { roomy = v; cost = omega arith; time = omega arith; yes = tt }
+          at-first : (b t : State) → Lives k (needAt k 0 su pr (Sent c)) (tellsAt k 0 su pr (Sent c)) (go (mk su (w .took su pr c n) l (Waiting (Pause b t 0))))
+          at-first b t =
+              let less : length (left (w .took su pr c n)) ≤ length (left (w .took su pr c (wholeOf c))) = law .short pr c n u .0 in
+              let less₁ : length (left (w .took su pr c n)) * (k + 2) ≤ length (left (w .took su pr c (wholeOf c))) * (k + 2) = mul-le _ _ (k + 2) less in
+              let less₂ : length (left (w .took su pr c n)) * (2 * k + 3) ≤ length (left (w .took su pr c (wholeOf c))) * (2 * k + 3) = mul-le _ _ (2 * k + 3) less in
+              record { roomy = law .short pr c n u .1 v; cost = omega (arith, less₁); time = omega (arith, less₂); yes = tt }
 
-          by : (d : Command) → Lives k (needAt k 0 su pr (Sent c)) (tellsAt k 0 su pr (Sent c)) (go (mk su (w .took su pr c) l (Waiting (waitAfter su d))))
+          by : (d : Command) → Lives k (needAt k 0 su pr (Sent c)) (tellsAt k 0 su pr (Sent c)) (go (mk su (w .took su pr c n) l (Waiting (waitAfter su d n))))
           by (Erase a) = at-first _ _
           by (SetAddress a) = at-first _ _
           by (Block a b m) = at-first _ _

@@ -7,16 +7,18 @@ use mathlib.Core.List.{List, [], _∷_, _++_, map}
 use lib.ListN.{length, getD, length-append, length-map}
 use Rattle.ground.specs.Bytes.{littleEndian, field, bytesLow}
 use Rattle.protocol.specs.declared.DfuProtocol.the-variants.{Dfu, Dfuse}
-use Rattle.session.specs.Machine.{Answer, count, waited, mk, onFirst, onSecond, onPoll, told}
-use Rattle.session.specs.Download.{download, blockCount, covering, eraseNext, writeNext, nextOf, tookOf}
-use Rattle.session.specs.Start.{setupOf, fresh, begunOf, beginOf}
-use Rattle.session.specs.declared.Request.the-variants.{GetStatus}
-use Rattle.session.specs.declared.End.{End}
-use Rattle.session.specs.declared.Phase.the-variants.{First, Finished}
+use Rattle.machine.specs.Machine.{onFirst, onSecond, onPoll}
+use Rattle.session.specs.Told.{Answer, count, waited, mk, told}
+use Rattle.work.specs.Work.{blockCount}
+use Rattle.download.specs.Download.{download, covering, eraseNext, writeNext, nextOf, tookOf}
+use Rattle.start.specs.Start.{setupOf, fresh, begunOf, beginOf}
+use Rattle.wire.specs.declared.Request.the-variants.{GetStatus}
+use Rattle.work.specs.declared.End.{End}
+use Rattle.machine.specs.declared.Phase.the-variants.{First, Finished}
 use Rattle.session.specs.declared.Session.{Session}
-use Rattle.session.specs.declared.start.DfuSansIo.{DfuSansIo}
-use Rattle.session.specs.declared.start.StartError.{StartError}
-use Rattle.session.specs.declared.start.Started.the-variants.{Session as Begun, Refused as Unbegun}
+use Rattle.start.specs.declared.DfuSansIo.{DfuSansIo}
+use Rattle.start.specs.declared.StartError.{StartError}
+use Rattle.start.specs.declared.Started.the-variants.{Session as Begun, Refused as Unbegun}
 use Rattle.plan.specs.Plan.{Dnload, erasing, several, blockOf, plan}
 use Rattle.promises.specs.Run.{Event, sends, hears, opened, afterBy, inTime, transfers, commanded, cleared}
 use Rattle.plan.specs.Sent.{onWire, planOf}

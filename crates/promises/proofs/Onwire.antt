@@ -9,13 +9,14 @@ use lib.Seq.{take-all}
 use lib.Dec.{leb}
 use borrow.Author.Tests.{leb-true, leb-false, le-leb}
 use Rattle.ground.specs.Pick.{pick}
-use Rattle.session.specs.Download.{covering, blockCount}
-use Rattle.session.specs.declared.Command.the-variants.{Erase, SetAddress, Empty}
-use Rattle.session.specs.declared.Setup.{Setup}
+use Rattle.work.specs.Work.{blockCount}
+use Rattle.download.specs.Download.{covering}
+use Rattle.wire.specs.declared.Command.the-variants.{Erase, SetAddress, Empty}
+use Rattle.work.specs.declared.Setup.{Setup}
 use Rattle.plan.specs.Dfu11.{DFU_DNLOAD}
 use Rattle.plan.specs.Dfuse.{eraseCommand, setAddressCommand}
 use Rattle.plan.specs.Plan.{Dnload, dnload, erasing, several, numberOf, bytesOf, blockOf, plan}
-use Rattle.session.proofs.Fills.{blocks-within}
+use Rattle.work.proofs.Fills.{blocks-within}
 use Rattle.plan.proofs.Blocks.{block-length}
 use Rattle.plan.specs.Sent.{onWire}
 use Rattle.plan.proofs.Wire.{erase-command, address-command}

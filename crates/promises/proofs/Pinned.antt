@@ -13,11 +13,11 @@ use denote.Ref.{now}
 use Rattle.promises.specs.Pins.{Pins}
 use Rattle.memory_layout.specs.Layout.{done as layout-done}
 use Rattle.protocol.specs.Interface.{done as protocol-done}
-use Rattle.session.specs.Download.{out}
+use Rattle.session.specs.Calls.{out}
 use Rattle.memory_layout.specs.declared.number.Number.{Number}
-use Rattle.session.specs.declared.start.DfuSansIo.{DfuSansIo}
-use Rattle.session.specs.declared.start.Started.{Started}
-use Rattle.session.specs.declared.wire.Control.{Control}
+use Rattle.start.specs.declared.DfuSansIo.{DfuSansIo}
+use Rattle.start.specs.declared.Started.{Started}
+use Rattle.wire.specs.declared.Control.{Control}
 use Rattle.functional_descriptor.specs.declared.Descriptor.{Descriptor}
 use Rattle.get_status.specs.declared.State.{State}
 use Rattle.get_status.specs.declared.Status.{Status}
@@ -26,7 +26,7 @@ use Rattle.get_status.specs.declared.Met.{Met}
 use Rattle.memory_layout.specs.declared.MemoryLayout.{MemoryLayout}
 use Rattle.protocol.specs.declared.Interface.{Interface}
 use Rattle.protocol.specs.declared.UsbWriteControl.{UsbWriteControl}
-use Rattle.session.specs.declared.Ask.{Ask}
+use Rattle.machine.specs.declared.Ask.{Ask}
 use Rattle.session.specs.declared.Step.{Step}
 use Rattle.budget.specs.declared.Suffices.{Suffices}
 use Rattle.speed.specs.Speed.{told as told-number}
@@ -86,26 +86,26 @@ use Rattle.protocol.proofs.DfuProtocol.new.Kinds as protocol-kinds
 use Rattle.protocol.proofs.DfuProtocol.new.Reads as protocol-reads
 use Rattle.protocol.proofs.detach.Kinds as detach-kinds
 use Rattle.protocol.proofs.detach.Reads as detach-reads
-use Rattle.session.proofs.download.cover.Kinds as cover-kinds
-use Rattle.session.proofs.download.cover.Reads as cover-reads
-use Rattle.session.proofs.download.blocks.Kinds as blocks-kinds
-use Rattle.session.proofs.download.blocks.Reads as blocks-reads
-use Rattle.session.proofs.start.is_many.Kinds as is-many-kinds
-use Rattle.session.proofs.start.is_many.Reads as is-many-reads
-use Rattle.session.proofs.synchronous.whole.Kinds as whole-kinds
-use Rattle.session.proofs.synchronous.whole.Reads as whole-reads
-use Rattle.session.proofs.start.DfuSansIo.new.Kinds as new-kinds
-use Rattle.session.proofs.start.DfuSansIo.new.Reads as new-reads
-use Rattle.session.proofs.start.DfuSansIo.set_address.Kinds as set-address-kinds
-use Rattle.session.proofs.start.DfuSansIo.set_address.Reads as set-address-reads
-use Rattle.session.proofs.start.DfuSansIo.begin.Kinds as begin-kinds
-use Rattle.session.proofs.start.DfuSansIo.begin.Reads as begin-reads
-use Rattle.session.proofs.start.DfuSansIo.download.Kinds as download-kinds
-use Rattle.session.proofs.start.DfuSansIo.download.Reads as download-reads
-use Rattle.session.proofs.start.DfuSansIo.detach.Kinds as io-detach-kinds
-use Rattle.session.proofs.start.DfuSansIo.detach.Reads as io-detach-reads
-use Rattle.session.proofs.Request.control.Kinds as control-kinds
-use Rattle.session.proofs.Request.control.Reads as control-reads
+use Rattle.download.proofs.cover.Kinds as cover-kinds
+use Rattle.download.proofs.cover.Reads as cover-reads
+use Rattle.work.proofs.blocks.Kinds as blocks-kinds
+use Rattle.work.proofs.blocks.Reads as blocks-reads
+use Rattle.start.proofs.is_many.Kinds as is-many-kinds
+use Rattle.start.proofs.is_many.Reads as is-many-reads
+use Rattle.work.proofs.whole.Kinds as whole-kinds
+use Rattle.work.proofs.whole.Reads as whole-reads
+use Rattle.start.proofs.DfuSansIo.new.Kinds as new-kinds
+use Rattle.start.proofs.DfuSansIo.new.Reads as new-reads
+use Rattle.start.proofs.DfuSansIo.set_address.Kinds as set-address-kinds
+use Rattle.start.proofs.DfuSansIo.set_address.Reads as set-address-reads
+use Rattle.start.proofs.DfuSansIo.begin.Kinds as begin-kinds
+use Rattle.start.proofs.DfuSansIo.begin.Reads as begin-reads
+use Rattle.start.proofs.DfuSansIo.download.Kinds as download-kinds
+use Rattle.start.proofs.DfuSansIo.download.Reads as download-reads
+use Rattle.start.proofs.DfuSansIo.detach.Kinds as io-detach-kinds
+use Rattle.start.proofs.DfuSansIo.detach.Reads as io-detach-reads
+use Rattle.wire.proofs.Request.control.Kinds as control-kinds
+use Rattle.wire.proofs.Request.control.Reads as control-reads
 use Rattle.session.proofs.Session.asks.Kinds as asks-kinds
 use Rattle.session.proofs.Session.asks.Reads as asks-reads
 use Rattle.session.proofs.Session.told_count.Kinds as told-count-kinds

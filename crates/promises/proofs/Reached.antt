@@ -8,14 +8,16 @@ use mathlib.Core.List.{List, [], _∷_}
 use lib.ListN.{length}
 use Rattle.ground.specs.Bytes.{littleEndian, field}
 use Rattle.protocol.specs.declared.DfuProtocol.the-variants.{Dfuse}
-use Rattle.session.specs.Machine.{Answer, count, reply, waited, mk, onFirst, onSecond, onPoll, told}
-use Rattle.session.specs.Download.{download, blockCount, covering, eraseNext, writeNext, nextOf, tookOf}
-use Rattle.session.specs.Start.{setupOf, fresh, begunOf, beginOf}
-use Rattle.session.specs.declared.Error.the-variants.{BudgetSpent}
-use Rattle.session.specs.declared.End.the-variants.{Stays}
-use Rattle.session.specs.declared.Phase.the-variants.{First, Finished, Refused}
+use Rattle.machine.specs.Machine.{onFirst, onSecond, onPoll}
+use Rattle.session.specs.Told.{Answer, count, reply, waited, mk, told}
+use Rattle.work.specs.Work.{blockCount}
+use Rattle.download.specs.Download.{download, covering, eraseNext, writeNext, nextOf, tookOf}
+use Rattle.start.specs.Start.{setupOf, fresh, begunOf, beginOf}
+use Rattle.work.specs.declared.Error.the-variants.{BudgetSpent}
+use Rattle.work.specs.declared.End.the-variants.{Stays}
+use Rattle.machine.specs.declared.Phase.the-variants.{First, Finished, Refused}
 use Rattle.session.specs.declared.Session.{Session}
-use Rattle.session.specs.declared.start.DfuSansIo.{DfuSansIo}
+use Rattle.start.specs.declared.DfuSansIo.{DfuSansIo}
 use Rattle.promises.specs.Run.{opened, after, afterBy, transfers, cleared}
 use Rattle.plan.specs.Sent.{Begins}
 use Rattle.promises.specs.Samples.{deviceOf, shows}

@@ -11,23 +11,28 @@ use borrow.Author.Tests.{eq-eqb, le-ltb}
 use Rattle.ground.specs.Bytes.{bytesLow}
 use Rattle.ground.specs.Pick.{pick}
 use Rattle.ground.proofs.Tests.{picked}
-use Rattle.session.specs.Machine.{Answer, count, reply, waited, wasReset, failed, Work, mk, asksAt, awaitReply, awaitCount, awaitWait, awaitReset, toldAt, told}
-use Rattle.session.specs.Download.{download, asAtStart, guardOf, through, called, filledFor, filledBy, callOf, requestData, askData, dataOf}
-use Rattle.session.specs.declared.Command.the-variants.{Erase, SetAddress, Block, Empty}
-use Rattle.session.specs.declared.Request.{Request}
-use Rattle.session.specs.declared.Request.the-variants.{GetStatus, ClearStatus, Command as Commands}
-use Rattle.session.specs.declared.Wait.the-variants.{Pause, Poll}
-use Rattle.session.specs.declared.Error.{Error}
-use Rattle.session.specs.declared.Error.the-variants.{NotAwaited}
+use Rattle.work.specs.Work.{Work}
+use Rattle.machine.specs.declared.Moved.{Moved}
+use Rattle.machine.specs.Machine.{asksAt}
+use Rattle.session.specs.Told.{Answer, count, reply, waited, wasReset, failed, mk, awaitReply, awaitCount, awaitWait, awaitReset, toldAt, told}
+use Rattle.wire.specs.Wire.{filledFor, requestData}
+use Rattle.download.specs.Download.{download}
+use Rattle.session.specs.Calls.{asAtStart, guardOf, through, called, filledBy, callOf, askData, dataOf}
+use Rattle.wire.specs.declared.Command.the-variants.{Erase, SetAddress, Block, Empty}
+use Rattle.wire.specs.declared.Request.{Request}
+use Rattle.wire.specs.declared.Request.the-variants.{GetStatus, ClearStatus, Command as Commands}
+use Rattle.work.specs.declared.Wait.the-variants.{Pause, Poll}
+use Rattle.work.specs.declared.Error.{Error}
+use Rattle.work.specs.declared.Error.the-variants.{NotAwaited}
 use Rattle.session.specs.declared.Guard.{Guard}
 use Rattle.session.specs.declared.Guard.the-variants.{Open}
-use Rattle.session.specs.declared.Phase.{Phase}
-use Rattle.session.specs.declared.Phase.the-variants.{First, Clear, Second, Sent, Waiting, Resetting, Finished, Refused}
-use Rattle.session.specs.declared.Progress.{Progress}
-use Rattle.session.specs.declared.Setup.{Setup}
+use Rattle.machine.specs.declared.Phase.{Phase}
+use Rattle.machine.specs.declared.Phase.the-variants.{First, Clear, Second, Sent, Waiting, Resetting, Finished, Refused}
+use Rattle.work.specs.declared.Progress.{Progress}
+use Rattle.work.specs.declared.Setup.{Setup}
 use Rattle.session.specs.declared.Session.{Session}
-use Rattle.session.specs.declared.Ask.{Ask}
-use Rattle.session.specs.declared.Ask.the-variants.{Transfer, Refused as SaysNo}
+use Rattle.machine.specs.declared.Ask.{Ask}
+use Rattle.machine.specs.declared.Ask.the-variants.{Transfer, Refused as SaysNo}
 use Rattle.session.specs.declared.Step.{Step}
 use Rattle.promises.specs.Run.{Event, sentBy, World, tell, after, afterBy}
 use Rattle.promises.specs.Calls.{Call, outcome, heardThrough, call, calls, Lends, AllLend, rightly, passed, AllPass, answers}
@@ -127,33 +132,33 @@ passed-run ps x (c ∷ more) v =
 abbrev pub Answers : Step → Type 0
 Answers x = (x .says ≡ asksAt (x .next .phase)) ⊎ (x .says ≡ SaysNo NotAwaited)
 
-reply-answers : (s : Session) (f : List ℕ → Session) (a : Answer) → Answers (awaitReply s f a)
+reply-answers : (s : Session) (f : List ℕ → Moved) (a : Answer) → Answers (awaitReply s f a)
 reply-answers s f (count n) = inr refl
 reply-answers s f (reply bs) = inl refl
 reply-answers s f waited = inr refl
 reply-answers s f wasReset = inr refl
 reply-answers s f failed = inl refl
 
-count-answers : (s : Session) (f : ℕ → Session) (a : Answer) → Answers (awaitCount s f a)
+count-answers : (s : Session) (f : ℕ → Moved) (a : Answer) → Answers (awaitCount s f a)
 count-answers s f (count n) = inl refl
 count-answers s f (reply bs) = inr refl
 count-answers s f waited = inr refl
 count-answers s f wasReset = inr refl
 count-answers s f failed = inl refl
 
-wait-answers : (s n : Session) (a : Answer) → Answers (awaitWait s n a)
-wait-answers s n (count m) = inr refl
-wait-answers s n (reply bs) = inr refl
-wait-answers s n waited = inl refl
-wait-answers s n wasReset = inr refl
-wait-answers s n failed = inr refl
+wait-answers : (s : Session) (m : Moved) (a : Answer) → Answers (awaitWait s m a)
+wait-answers s m (count n) = inr refl
+wait-answers s m (reply bs) = inr refl
+wait-answers s m waited = inl refl
+wait-answers s m wasReset = inr refl
+wait-answers s m failed = inr refl
 
-reset-answers : (s n : Session) (a : Answer) → Answers (awaitReset s n a)
-reset-answers s n (count m) = inr refl
-reset-answers s n (reply bs) = inr refl
-reset-answers s n waited = inr refl
-reset-answers s n wasReset = inl refl
-reset-answers s n failed = inl refl
+reset-answers : (s : Session) (m : Moved) (a : Answer) → Answers (awaitReset s m a)
+reset-answers s m (count n) = inr refl
+reset-answers s m (reply bs) = inr refl
+reset-answers s m waited = inr refl
+reset-answers s m wasReset = inl refl
+reset-answers s m failed = inl refl
 
 answersAt : (w : Work) (su : Setup) (pr : Progress) (l : ℕ) (p : Phase) (a : Answer) → Answers (toldAt w su pr l p a)
 answersAt w su pr l First a = reply-answers _ _ a

@@ -1,6 +1,7 @@
 -- The download has room where pages cover the target and positions stay below 2^32, and with room it isn't refused. Assumes nothing.
 use Prim.Native.Nat.{ℕ, suc, _+_, _-_, _<_, _≤_}
 use native.Mathlib.Numerals.{add-one}
+use native.Mathlib.Nat.{le-refl}
 use native.Mathlib.Omega.{arith}
 use mathlib.Core.Path.{_≡_, refl, ap, _∙_}
 use mathlib.Core.Bool.{Bool, true, false}
@@ -12,14 +13,15 @@ use borrow.Author.Tests.{ltb-true, ltb-false}
 use Rattle.ground.specs.Pick.{pick}
 use Rattle.ground.proofs.Tests.{picked}
 use Rattle.protocol.specs.declared.DfuProtocol.{DfuProtocol}
-use Rattle.session.specs.Download.{limit, endOf, covering, passed, eraseNext, writeNext, nextAt, nextOf, tookOf, download}
-use Rattle.session.specs.Start.{dfuseb, targetOf, setupOf, fresh}
-use Rattle.session.specs.declared.Stage.{Stage}
-use Rattle.session.specs.declared.Stage.the-variants.{Erasing, Writing, Ending}
-use Rattle.session.specs.declared.Progress.{Progress}
-use Rattle.session.specs.declared.Setup.{Setup}
-use Rattle.session.specs.declared.Todo.{Todo}
-use Rattle.session.specs.declared.start.DfuSansIo.{DfuSansIo}
+use Rattle.work.specs.Work.{limit, endOf}
+use Rattle.download.specs.Download.{covering, passed, eraseNext, writeNext, nextAt, nextOf, tookOf, download}
+use Rattle.start.specs.Start.{dfuseb, targetOf, setupOf, fresh}
+use Rattle.work.specs.declared.Stage.{Stage}
+use Rattle.work.specs.declared.Stage.the-variants.{Erasing, Writing, Ending}
+use Rattle.work.specs.declared.Progress.{Progress}
+use Rattle.work.specs.declared.Setup.{Setup}
+use Rattle.work.specs.declared.Todo.{Todo}
+use Rattle.start.specs.declared.DfuSansIo.{DfuSansIo}
 use Rattle.plan.specs.Plan.{sum}
 use Rattle.plan.proofs.Pages.{covering-more, sum-covering}
 use Rattle.promises.specs.Fair.{Ready}
@@ -90,7 +92,7 @@ wantsAt Ending ps su pr v = tt
 -- THE DOWNLOAD THRIVES WHERE THERE IS ROOM
 pub thrives : (ps : List ℕ) (su : Setup) → 0 < su .size → Thrives (download ps) su (left ps su) (room ps su)
 unfolding nextOf
-thrives ps su h = record { heads = λ pr. heads ps su pr h; wants = λ pr v. wantsAt (pr .stage) ps su pr v }
+thrives ps su h = record { heads = λ pr. heads ps su pr h; wants = λ pr v. wantsAt (pr .stage) ps su pr v; short = λ pr c n t. (le-refl _, λ v. v) }
 
 -- and it has room at its start
 pub fresh-room : (io : DfuSansIo) (p : DfuProtocol) (fw ps : List ℕ) → Ready io p fw ps

@@ -4,11 +4,12 @@ use native.Mathlib.Omega.{arith}
 use mathlib.Core.Path.{_≡_}
 use mathlib.Core.List.{List, [], _∷_}
 use lib.ListN.{length, length-append}
-use Rattle.session.specs.Machine.{Answer, Work}
-use Rattle.session.specs.declared.Request.{Request}
-use Rattle.session.specs.declared.Setup.{Setup}
-use Rattle.session.specs.declared.Todo.{Todo}
-use Rattle.session.specs.declared.Todo.the-variants.{Send, End as Ends, Refuse}
+use Rattle.work.specs.Work.{Work}
+use Rattle.session.specs.Told.{Answer}
+use Rattle.wire.specs.declared.Request.{Request}
+use Rattle.work.specs.declared.Setup.{Setup}
+use Rattle.work.specs.declared.Todo.{Todo}
+use Rattle.work.specs.declared.Todo.the-variants.{Send, End as Ends, Refuse}
 use Rattle.promises.specs.Run.{Event, sends, World, tell, after, afterBy, transfers}
 use Rattle.promises.proofs.Steady.{KeptBy, Steady, tell-steady}
 
@@ -22,7 +23,7 @@ one-more n l h q v = omega (arith, v, length-append (transfers h) (q ∷ []))
 
 any-wish : (n : ℕ) (t : Todo) → KeptBy (Adds n) t
 any-wish n (Send c then) = λ l h v. one-more n l h _ v
-any-wish n Ends = tt
+any-wish n (Ends e) = tt
 any-wish n (Refuse e) = tt
 
 adds : (n : ℕ) (w : Work) (su : Setup) → Steady (Adds n) w su

@@ -11,17 +11,17 @@ use borrow.Author.Tests.{eqb-true, ltb-false, leb-false}
 use Rattle.ground.proofs.Tests.{picked}
 use Rattle.protocol.specs.declared.DfuProtocol.{DfuProtocol}
 use Rattle.protocol.specs.declared.DfuProtocol.the-variants.{Dfu, Dfuse}
-use Rattle.session.specs.Machine.{mk}
-use Rattle.session.specs.Download.{limit, endOf, blockCount}
-use Rattle.session.specs.Start.{dfuseb, setupOf, fresh, nothingb, beyondb, overb, maxBlocks, manyb, starting, begunOf, beginOf}
-use Rattle.session.specs.declared.End.the-variants.{Stays}
-use Rattle.session.specs.declared.Phase.the-variants.{First, Finished}
-use Rattle.session.specs.declared.Setup.{Setup}
+use Rattle.session.specs.Told.{mk}
+use Rattle.work.specs.Work.{limit, endOf, blockCount}
+use Rattle.start.specs.Start.{dfuseb, setupOf, fresh, nothingb, beyondb, overb, maxBlocks, manyb, starting, begunOf, beginOf}
+use Rattle.work.specs.declared.End.the-variants.{Stays}
+use Rattle.machine.specs.declared.Phase.the-variants.{First, Finished}
+use Rattle.work.specs.declared.Setup.{Setup}
 use Rattle.session.specs.declared.Session.{Session}
-use Rattle.session.specs.declared.start.DfuSansIo.{DfuSansIo}
-use Rattle.session.specs.declared.start.StartError.{StartError}
-use Rattle.session.specs.declared.start.Started.{Started}
-use Rattle.session.specs.declared.start.Started.the-variants.{Session as Begun, Refused}
+use Rattle.start.specs.declared.DfuSansIo.{DfuSansIo}
+use Rattle.start.specs.declared.StartError.{StartError}
+use Rattle.start.specs.declared.Started.{Started}
+use Rattle.start.specs.declared.Started.the-variants.{Session as Begun, Refused}
 use Rattle.promises.specs.Run.{opened, transfers}
 use Rattle.plan.specs.Sent.{Begins}
 

@@ -4,18 +4,19 @@ use mathlib.Core.Path.{_≡_, refl, subst}
 use mathlib.Core.List.{List, _∷_}
 use lib.Dec.{eqb}
 use Rattle.ground.proofs.Tests.{picked}
-use Rattle.session.specs.Machine.{Answer, Work, waitAfter}
-use Rattle.session.specs.declared.Command.{Command}
-use Rattle.session.specs.declared.Command.the-variants.{Erase, SetAddress, Block, Empty}
-use Rattle.session.specs.declared.Request.the-variants.{GetStatus, ClearStatus, Command as Commands}
-use Rattle.session.specs.declared.Wait.the-variants.{Pause, Poll}
-use Rattle.session.specs.declared.Phase.{Phase}
-use Rattle.session.specs.declared.Phase.the-variants.{First, Clear, Second, Sent, Waiting, Resetting, Finished, Refused}
-use Rattle.session.specs.declared.Setup.{Setup}
-use Rattle.session.specs.declared.Progress.{Progress}
+use Rattle.work.specs.Work.{Work, waitAfter}
+use Rattle.session.specs.Told.{Answer}
+use Rattle.wire.specs.declared.Command.{Command}
+use Rattle.wire.specs.declared.Command.the-variants.{Erase, SetAddress, Block, Empty}
+use Rattle.wire.specs.declared.Request.the-variants.{GetStatus, ClearStatus, Command as Commands}
+use Rattle.work.specs.declared.Wait.the-variants.{Pause, Poll}
+use Rattle.machine.specs.declared.Phase.{Phase}
+use Rattle.machine.specs.declared.Phase.the-variants.{First, Clear, Second, Sent, Waiting, Resetting, Finished, Refused}
+use Rattle.work.specs.declared.Setup.{Setup}
+use Rattle.work.specs.declared.Progress.{Progress}
 use Rattle.session.specs.declared.Session.{Session}
-use Rattle.session.specs.declared.Todo.{Todo}
-use Rattle.session.specs.declared.Todo.the-variants.{Send, End as Ends, Refuse}
+use Rattle.work.specs.declared.Todo.{Todo}
+use Rattle.work.specs.declared.Todo.the-variants.{Send, End as Ends, Refuse}
 use Rattle.promises.specs.Run.{Event, sends, hears, World, tell}
 use Rattle.promises.proofs.Walk.{Claims, Holds, Wished, WaitingAt, ClaimAt, Good, tell-good, either-end}
 
@@ -28,8 +29,8 @@ module _ (P : ℕ → List Event → Type 0) where
     atWish = λ pr l h. P l h;
     pausing = λ b t pr l h. P l h;
     looking = λ b t pr l h. P l h;
-    resetting = λ l h. P l h;
-    finished = λ e l h. P l h;
+    resetting = λ pr l h. P l h;
+    finished = λ e pr l h. P l h;
     refused = λ e l h. P l h;
     always = λ l h. P l h;
   }
@@ -37,7 +38,7 @@ module _ (P : ℕ → List Event → Type 0) where
   -- what is asked of the claim: each transfer keeps it, and each reply
   abbrev pub KeptBy : Todo → Type 0
   KeptBy (Send c then) = (l : ℕ) (h : List Event) → P (suc l) h → P l (sends (Commands c) ∷ h)
-  KeptBy Ends = Unit
+  KeptBy (Ends e) = Unit
   KeptBy (Refuse e) = Unit
 
   pub record Steady (w : Work) (su : Setup) : Type 0 where
@@ -47,16 +48,16 @@ module _ (P : ℕ → List Event → Type 0) where
     pub hear : (l : ℕ) (h : List Event) (st : ℕ) → P l h → P l (hears st ∷ h)
 
   module _ (w : Work) (su : Setup) where
-    waits : (c : Command) (pr : Progress) (l : ℕ) (h : List Event) → P l h → WaitingAt w su steady (waitAfter su c) pr l h
-    waits (Erase a) pr l h v = v
-    waits (SetAddress a) pr l h v = v
-    waits (Block b f m) pr l h v = v
-    waits (Empty b) pr l h v = v
+    waits : (c : Command) (n : ℕ) (pr : Progress) (l : ℕ) (h : List Event) → P l h → WaitingAt w su steady (waitAfter su c n) pr l h
+    waits (Erase a) n pr l h v = v
+    waits (SetAddress a) n pr l h v = v
+    waits (Block b f m) n pr l h v = v
+    waits (Empty b) n pr l h v = v
 
-    wished : (l : ℕ) (h : List Event) (t : Todo) → KeptBy t → P l h → Wished w su steady l h t
-    wished l h (Send c then) k v = λ m e. let on : P m (sends (Commands c) ∷ h) = k m h (subst (λ (x : ℕ). P x h) e v) in (on, waits c _ m _ on)
-    wished l h Ends k v = either-end w su steady l h v v
-    wished l h (Refuse e) k v = v
+    wished : (pr : Progress) (l : ℕ) (h : List Event) (t : Todo) → KeptBy t → P l h → Wished w su steady pr l h t
+    wished pr l h (Send c then) k v = λ m e. let on : P m (sends (Commands c) ∷ h) = k m h (subst (λ (x : ℕ). P x h) e v) in (on, λ n e. waits c n _ m _ on)
+    wished pr l h (Ends e) k v = either-end w su steady pr l h e v v
+    wished pr l h (Refuse e) k v = v
 
     holds : Steady w su → Holds w su steady
     holds g = record {
@@ -64,7 +65,7 @@ module _ (P : ℕ → List Event → Type 0) where
           (λ e. g .clear l (hears st ∷ h) (g .hear (suc l) h st v)) (λ e. g .status l (hears st ∷ h) (g .hear (suc l) h st v));
       clear = λ pr l h v. g .status l h v;
       second = λ pr l h v. g .hear l h _ v;
-      wish = λ pr l h v. wished l h (w .next su pr) (g .wish pr) v;
+      wish = λ pr l h v. wished pr l h (w .next su pr) (g .wish pr) v;
       look = λ b t pr l h v. g .status l h v;
       busy = λ b t pr l h v. g .hear l h _ v;
       settle = λ b t pr l h v. g .hear l h _ v;
@@ -74,9 +75,9 @@ module _ (P : ℕ → List Event → Type 0) where
       cutWish = λ pr l h v. v;
       cutPausing = λ b t pr l h v. v;
       cutLooking = λ b t pr l h v. v;
-      reset = λ l h v. v;
-      cutResetting = λ l h v. v;
-      cutFinished = λ e l h v. v;
+      reset = λ pr l h v. v;
+      cutResetting = λ pr l h v. v;
+      cutFinished = λ e pr l h v. v;
       cutRefused = λ e l h v. v;
       deny = λ e l h d v. v;
       hear = λ l h st v. g .hear l h st v;
@@ -86,7 +87,7 @@ module _ (P : ℕ → List Event → Type 0) where
     at-phase First pr l h v = v
     at-phase Clear pr l h v = v
     at-phase Second pr l h v = v
-    at-phase (Sent c) pr l h v = (v, waits c (w .took su pr c) l h v)
+    at-phase (Sent c) pr l h v = (v, λ n e. waits c n (w .took su pr c n) l h v)
     at-phase (Waiting (Pause b t ms)) pr l h v = v
     at-phase (Waiting (Poll b t)) pr l h v = v
     at-phase Resetting pr l h v = v
@@ -121,7 +122,7 @@ module _ (P : ℕ → List Event → Type 0) where
 -- the setup stays
 any-wish : (t : Todo) → KeptBy (λ l h. Unit) t
 any-wish (Send c then) = λ l h v. tt
-any-wish Ends = tt
+any-wish (Ends e) = tt
 any-wish (Refuse e) = tt
 
 pub tell-setup : (w : Work) (x : World) (a : Answer) → (tell w x a) .session .setup ≡ x .session .setup

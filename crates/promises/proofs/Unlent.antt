@@ -8,22 +8,26 @@ use lib.Dec.{ltb}
 use lib.ListN.{length, getD}
 use Rattle.ground.proofs.Tests.{picked}
 use Rattle.protocol.specs.declared.DfuProtocol.{DfuProtocol}
-use Rattle.session.specs.Machine.{asksAt, told}
-use Rattle.session.specs.Download.{limit, endOf, eraseNext, writeNext, nextAt, nextOf, download}
-use Rattle.session.specs.Start.{setupOf}
-use Rattle.session.specs.declared.Wait.the-variants.{Pause, Poll}
-use Rattle.session.specs.declared.Error.the-variants.{NotAwaited, NotAsAtStart}
-use Rattle.session.specs.declared.Stage.{Stage}
-use Rattle.session.specs.declared.Stage.the-variants.{Erasing, Writing, Ending as Closing}
-use Rattle.session.specs.declared.Phase.{Phase}
-use Rattle.session.specs.declared.Phase.the-variants.{First, Clear, Second, Sent, Waiting, Resetting, Finished, Refused}
-use Rattle.session.specs.declared.Progress.{Progress}
-use Rattle.session.specs.declared.Setup.{Setup}
+use Rattle.machine.specs.Machine.{asksAt}
+use Rattle.session.specs.Told.{told}
+use Rattle.work.specs.Work.{limit, endOf}
+use Rattle.download.specs.Download.{eraseNext, writeNext, nextAt, nextOf, download, endFor}
+use Rattle.start.specs.Start.{setupOf}
+use Rattle.work.specs.declared.Wait.the-variants.{Pause, Poll}
+use Rattle.work.specs.declared.Error.the-variants.{NotAwaited, NotAsAtStart}
+use Rattle.work.specs.declared.Stage.{Stage}
+use Rattle.work.specs.declared.Stage.the-variants.{Erasing, Writing, Ending as Closing}
+use Rattle.work.specs.declared.End.{End}
+use Rattle.machine.specs.declared.Phase.{Phase}
+use Rattle.machine.specs.declared.Phase.the-variants.{First, Clear, Second, Sent, Waiting, Resetting, Finished, Refused}
+use Rattle.work.specs.declared.Progress.{Progress}
+use Rattle.work.specs.declared.Setup.{Setup}
 use Rattle.session.specs.declared.Session.{Session}
-use Rattle.session.specs.declared.Todo.{Todo}
-use Rattle.session.specs.declared.Ask.the-variants.{Refused as SaysNo}
+use Rattle.work.specs.declared.Todo.{Todo}
+use Rattle.work.specs.declared.Todo.the-variants.{End as Ends}
+use Rattle.machine.specs.declared.Ask.the-variants.{Refused as SaysNo}
 use Rattle.session.specs.declared.Step.{Step}
-use Rattle.session.specs.declared.start.DfuSansIo.{DfuSansIo}
+use Rattle.start.specs.declared.DfuSansIo.{DfuSansIo}
 use Rattle.promises.specs.Run.{Event, opened, after, World, tell}
 use Rattle.promises.specs.Calls.{Call, outcome, calls, Lends, AllLend, answers}
 use Rattle.plan.specs.Sent.{Begins}
@@ -40,6 +44,9 @@ module _ (ps : List ℕ) (su : Setup) where
   abbrev Wish : Todo → Type 0
   Wish t = OfWish (λ b t. Unit) Unit (λ e. Unit) Ending t
 
+  end-wish : Wish (Ends (endFor su))
+  end-wish = picked (λ (e : End). Wish (Ends e)) (su .tolerant) _ _ (λ e. tt) (λ e. picked (λ (x : End). Wish (Ends x)) (su .detach) _ _ (λ f. tt) (λ f. tt))
+
   wishes : (st : Stage) (pr : Progress) → Wish (nextAt st ps su pr)
   unfolding eraseNext writeNext
   wishes Erasing pr =
@@ -50,13 +57,13 @@ module _ (ps : List ℕ) (su : Setup) where
       (λ e. tt)
   wishes Writing pr =
       picked Wish (ltb (pr .accepted) (su .length)) _ _ (λ e. tt) (λ e. tt)
-  wishes Closing pr = tt
+  wishes Closing pr = end-wish
 
   holds : Holds (download ps) su unlent
   unfolding nextOf
   holds =
       lasting-holds _ _ _ _ (download ps) su
-      (record { waits = unit-waits su; ends = λ l h. either-end (download ps) su unlent l h tt tt; reset = λ v. tt; wishes = λ pr. wishes (pr .stage) pr; denies = λ e d. d })
+      (record { waits = unit-waits su; reset = λ v. tt; wishes = λ pr. wishes (pr .stage) pr; denies = λ e d. d })
 
   -- such a session doesn't say 25
   says-other : (p : Phase) (pr : Progress) (l : ℕ) (h : List Event) → ClaimAt (download ps) su unlent p pr l h → asksAt p ≡ SaysNo NotAsAtStart → ⊥

@@ -13,26 +13,29 @@ use Rattle.get_status.specs.declared.GetStatusMessage.{GetStatusMessage}
 use Rattle.get_status.specs.declared.Reply.{Reply}
 use Rattle.get_status.specs.declared.Reply.the-variants.{ResponseTooShort as ShortReply, StatusError as BadStatus, Read}
 use Rattle.get_status.specs.declared.Met.{Met}
-use Rattle.session.specs.Machine.{Answer, count, reply, waited, wasReset, failed, Work, mk, refuse, issue, endPhase, proceed, waitAfter, takenb, onCount, firstReply, laterReply, reading, onFirst, onSecond, onMet, onPoll, asksAt, go, stay, toldAt, told}
-use Rattle.session.specs.declared.Command.{Command}
-use Rattle.session.specs.declared.Command.the-variants.{Erase, SetAddress, Block, Empty}
-use Rattle.session.specs.declared.Request.{Request}
-use Rattle.session.specs.declared.Request.the-variants.{GetStatus, ClearStatus, Command as Commands}
-use Rattle.session.specs.declared.Wait.{Wait}
-use Rattle.session.specs.declared.Wait.the-variants.{Pause, Poll}
-use Rattle.session.specs.declared.Error.{Error}
-use Rattle.session.specs.declared.Error.the-variants.{InvalidState, EraseLimitReached, NoSpaceLeft, ResponseTooShort, BudgetSpent, NotAwaited, NotAsAtStart, Failed, StatusError, WrongCount}
-use Rattle.session.specs.declared.End.{End}
-use Rattle.session.specs.declared.End.the-variants.{Stays, Reset}
-use Rattle.session.specs.declared.Phase.{Phase}
-use Rattle.session.specs.declared.Phase.the-variants.{First, Clear, Second, Sent, Waiting, Resetting, Finished, Refused}
-use Rattle.session.specs.declared.Setup.{Setup}
-use Rattle.session.specs.declared.Progress.{Progress}
+use Rattle.work.specs.Work.{Work, waitAfter, takenb}
+use Rattle.machine.specs.declared.Moved.{Moved}
+use Rattle.machine.specs.Machine.{refuse, issue, endPhase, proceed, onCount, firstReply, laterReply, reading, onFirst, onSecond, onMet, onPoll, asksAt}
+use Rattle.session.specs.Told.{Answer, count, reply, waited, wasReset, failed, mk, over, go, stay, toldAt, told}
+use Rattle.wire.specs.declared.Command.{Command}
+use Rattle.wire.specs.declared.Command.the-variants.{Erase, SetAddress, Block, Empty}
+use Rattle.wire.specs.declared.Request.{Request}
+use Rattle.wire.specs.declared.Request.the-variants.{GetStatus, ClearStatus, Command as Commands}
+use Rattle.work.specs.declared.Wait.{Wait}
+use Rattle.work.specs.declared.Wait.the-variants.{Pause, Poll}
+use Rattle.work.specs.declared.Error.{Error}
+use Rattle.work.specs.declared.Error.the-variants.{InvalidState, EraseLimitReached, NoSpaceLeft, ResponseTooShort, BudgetSpent, NotAwaited, NotAsAtStart, Failed, StatusError, WrongCount}
+use Rattle.work.specs.declared.End.{End}
+use Rattle.work.specs.declared.End.the-variants.{Stays, Reset}
+use Rattle.machine.specs.declared.Phase.{Phase}
+use Rattle.machine.specs.declared.Phase.the-variants.{First, Clear, Second, Sent, Waiting, Resetting, Finished, Refused}
+use Rattle.work.specs.declared.Setup.{Setup}
+use Rattle.work.specs.declared.Progress.{Progress}
 use Rattle.session.specs.declared.Session.{Session}
-use Rattle.session.specs.declared.Todo.{Todo}
-use Rattle.session.specs.declared.Todo.the-variants.{Send, End as Ends, Refuse}
-use Rattle.session.specs.declared.Ask.{Ask}
-use Rattle.session.specs.declared.Ask.the-variants.{Transfer}
+use Rattle.work.specs.declared.Todo.{Todo}
+use Rattle.work.specs.declared.Todo.the-variants.{Send, End as Ends, Refuse}
+use Rattle.machine.specs.declared.Ask.{Ask}
+use Rattle.machine.specs.declared.Ask.the-variants.{Transfer}
 use Rattle.session.specs.declared.Step.{Step}
 use Rattle.promises.specs.Run.{Event, sends, hears, sentBy, shownBy, heardAt, World, tell, after, afterBy, Over}
 
@@ -45,8 +48,8 @@ pub record Claims : Type 1 where
   pub atWish : Progress → ℕ → List Event → Type 0
   pub pausing : State → State → Progress → ℕ → List Event → Type 0
   pub looking : State → State → Progress → ℕ → List Event → Type 0
-  pub resetting : ℕ → List Event → Type 0
-  pub finished : End → ℕ → List Event → Type 0
+  pub resetting : Progress → ℕ → List Event → Type 0
+  pub finished : End → Progress → ℕ → List Event → Type 0
   pub refused : Error → ℕ → List Event → Type 0
   pub always : ℕ → List Event → Type 0
 
@@ -68,25 +71,25 @@ module _ (w : Work) (su : Setup) (c : Claims) where
   WaitingAt (Pause b t ms) pr l h = c .pausing b t pr l h
   WaitingAt (Poll b t) pr l h = c .looking b t pr l h
 
-  -- a command is on: once it is taken, its wait begins
+  -- a command is on: once it is taken, with whatever bytes it may be, its wait begins
   abbrev pub SentAt : Command → Progress → ℕ → List Event → Type 0
-  SentAt d pr l h = c .always l h × WaitingAt (waitAfter su d) (w .took su pr d) l h
+  SentAt d pr l h = c .always l h × ((n : ℕ) → takenb d n ≡ true → WaitingAt (waitAfter su d n) (w .took su pr d n) l h)
 
-  abbrev pub EndAt : Phase → ℕ → List Event → Type 0
-  EndAt First l h = ⊥
-  EndAt Clear l h = ⊥
-  EndAt Second l h = ⊥
-  EndAt (Sent d) l h = ⊥
-  EndAt (Waiting x) l h = ⊥
-  EndAt Resetting l h = c .resetting l h
-  EndAt (Finished e) l h = c .finished e l h
-  EndAt (Refused e) l h = ⊥
+  abbrev pub EndAt : Phase → Progress → ℕ → List Event → Type 0
+  EndAt First pr l h = ⊥
+  EndAt Clear pr l h = ⊥
+  EndAt Second pr l h = ⊥
+  EndAt (Sent d) pr l h = ⊥
+  EndAt (Waiting x) pr l h = ⊥
+  EndAt Resetting pr l h = c .resetting pr l h
+  EndAt (Finished e) pr l h = c .finished e pr l h
+  EndAt (Refused e) pr l h = ⊥
 
   -- what a wish leads to
-  abbrev pub Wished : ℕ → List Event → Todo → Type 0
-  Wished l h (Send d then) = (m : ℕ) → l ≡ suc m → SentAt d then m (sends (Commands d) ∷ h)
-  Wished l h Ends = EndAt (endPhase su) l h
-  Wished l h (Refuse e) = c .refused e l h
+  abbrev pub Wished : Progress → ℕ → List Event → Todo → Type 0
+  Wished pr l h (Send d then) = (m : ℕ) → l ≡ suc m → SentAt d then m (sends (Commands d) ∷ h)
+  Wished pr l h (Ends e) = EndAt (endPhase e) pr l h
+  Wished pr l h (Refuse e) = c .refused e l h
 
   -- what is asked of the claims: each step of the machine leads from one to the next
   pub record Holds : Type 0 where
@@ -94,7 +97,7 @@ module _ (w : Work) (su : Setup) (c : Claims) where
         → pick (eqb st 10) (c .atClear pr l (sends ClearStatus ∷ hears st ∷ h)) (c .atSecond pr l (sends GetStatus ∷ hears st ∷ h))
     pub clear : (pr : Progress) (l : ℕ) (h : List Event) → c .atClear pr (suc l) h → c .atSecond pr l (sends GetStatus ∷ h)
     pub second : (pr : Progress) (l : ℕ) (h : List Event) → c .atSecond pr l h → c .atWish pr l (hears 2 ∷ h)
-    pub wish : (pr : Progress) (l : ℕ) (h : List Event) → c .atWish pr l h → Wished l h (w .next su pr)
+    pub wish : (pr : Progress) (l : ℕ) (h : List Event) → c .atWish pr l h → Wished pr l h (w .next su pr)
     pub look : (b t : State) (pr : Progress) (l : ℕ) (h : List Event) → c .pausing b t pr (suc l) h → c .looking b t pr l (sends GetStatus ∷ h)
     pub busy : (b t : State) (pr : Progress) (l : ℕ) (h : List Event) → c .looking b t pr l h → c .pausing b t pr l (hears (stateByte b) ∷ h)
     pub settle : (b t : State) (pr : Progress) (l : ℕ) (h : List Event) → c .looking b t pr l h → c .atWish pr l (hears (stateByte t) ∷ h)
@@ -104,9 +107,9 @@ module _ (w : Work) (su : Setup) (c : Claims) where
     pub cutWish : (pr : Progress) (l : ℕ) (h : List Event) → c .atWish pr l h → c .always l h
     pub cutPausing : (b t : State) (pr : Progress) (l : ℕ) (h : List Event) → c .pausing b t pr l h → c .always l h
     pub cutLooking : (b t : State) (pr : Progress) (l : ℕ) (h : List Event) → c .looking b t pr l h → c .always l h
-    pub reset : (l : ℕ) (h : List Event) → c .resetting l h → c .finished Reset l h
-    pub cutResetting : (l : ℕ) (h : List Event) → c .resetting l h → c .always l h
-    pub cutFinished : (e : End) (l : ℕ) (h : List Event) → c .finished e l h → c .always l h
+    pub reset : (pr : Progress) (l : ℕ) (h : List Event) → c .resetting pr l h → c .finished Reset pr l h
+    pub cutResetting : (pr : Progress) (l : ℕ) (h : List Event) → c .resetting pr l h → c .always l h
+    pub cutFinished : (e : End) (pr : Progress) (l : ℕ) (h : List Event) → c .finished e pr l h → c .always l h
     pub cutRefused : (e : Error) (l : ℕ) (h : List Event) → c .refused e l h → c .always l h
     pub deny : (e : Error) (l : ℕ) (h : List Event) → Ending e → c .always l h → c .refused e l h
     pub hear : (l : ℕ) (h : List Event) (st : ℕ) → c .always l h → c .always l (hears st ∷ h)
@@ -117,8 +120,8 @@ module _ (w : Work) (su : Setup) (c : Claims) where
   ClaimAt Second pr l h = c .atSecond pr l h
   ClaimAt (Sent d) pr l h = SentAt d pr l h
   ClaimAt (Waiting x) pr l h = WaitingAt x pr l h
-  ClaimAt Resetting pr l h = c .resetting l h
-  ClaimAt (Finished e) pr l h = c .finished e l h
+  ClaimAt Resetting pr l h = c .resetting pr l h
+  ClaimAt (Finished e) pr l h = c .finished e pr l h
   ClaimAt (Refused e) pr l h = c .refused e l h
 
   -- a step after which the setup is as it was and the claim of the new phase holds
@@ -134,66 +137,61 @@ module _ (w : Work) (su : Setup) (c : Claims) where
     cut (Sent d) pr l h v = v .0
     cut (Waiting (Pause b t ms)) pr l h v = g .cutPausing b t pr l h v
     cut (Waiting (Poll b t)) pr l h v = g .cutLooking b t pr l h v
-    cut Resetting pr l h v = g .cutResetting l h v
-    cut (Finished e) pr l h v = g .cutFinished e l h v
+    cut Resetting pr l h v = g .cutResetting pr l h v
+    cut (Finished e) pr l h v = g .cutFinished e pr l h v
     cut (Refused e) pr l h v = g .cutRefused e l h v
 
     -- the leaves: a refusal, an answer that isn't awaited, a transfer
-    refuse-kept : (pr : Progress) (l : ℕ) (h : List Event) (e : Error) → Ending e → c .always l h → Kept h (go (refuse su pr l e))
+    refuse-kept : (pr : Progress) (l : ℕ) (h : List Event) (e : Error) → Ending e → c .always l h → Kept h (go (over su (refuse pr l e)))
     refuse-kept pr l h e d v = record { setup = refl; holds = g .deny e l h d v }
 
     stay-kept : (p : Phase) (pr : Progress) (l : ℕ) (h : List Event) (e : Error) → ClaimAt p pr l h → Kept h (stay (mk su pr l p) e)
     stay-kept p pr l h e v = record { setup = refl; holds = v }
 
     issue-kept : (pr then : Progress) (l : ℕ) (h : List Event) (q : Request) (p : Phase) → asksAt p ≡ Transfer q → c .always l h
-        → ((m : ℕ) → l ≡ suc m → ClaimAt p then m (sends q ∷ h)) → Kept h (go (issue su pr l then p))
+        → ((m : ℕ) → l ≡ suc m → ClaimAt p then m (sends q ∷ h)) → Kept h (go (over su (issue pr l then p)))
     issue-kept pr then zero h q p a v f = refuse-kept pr zero h _ tt v
     issue-kept pr then (suc l) h q p a v f =
         record { setup = refl; holds = subst (λ (x : Ask). ClaimAt p then l (sentBy x ++ h)) (sym a) (f l refl) }
 
-    proceed-kept : (pr : Progress) (l : ℕ) (h : List Event) (t : Todo) → Wished l h t → c .always l h → Kept h (go (proceed su pr l t))
+    proceed-kept : (pr : Progress) (l : ℕ) (h : List Event) (t : Todo) → Wished pr l h t → c .always l h → Kept h (go (over su (proceed pr l t)))
     proceed-kept pr l h (Send d then) v s = issue-kept pr then l h _ (Sent d) refl s v
-    proceed-kept pr l h Ends v s = by (su .tolerant) (su .detach) v
-      where
-        by : (t d : Bool) → EndAt (pick t (Finished Stays) (pick d (Finished Stays) Resetting)) l h
-            → Kept h (go (mk su pr l (pick t (Finished Stays) (pick d (Finished Stays) Resetting))))
-        by true d v = record { setup = refl; holds = v }
-        by false true v = record { setup = refl; holds = v }
-        by false false v = record { setup = refl; holds = v }
+    proceed-kept pr l h (Ends Stays) v s = record { setup = refl; holds = v }
+    proceed-kept pr l h (Ends Reset) v s = record { setup = refl; holds = v }
     proceed-kept pr l h (Refuse e) v s = record { setup = refl; holds = v }
 
-    wish-kept : (pr : Progress) (l : ℕ) (h : List Event) → c .atWish pr l h → Kept h (go (proceed su pr l (w .next su pr)))
+    wish-kept : (pr : Progress) (l : ℕ) (h : List Event) → c .atWish pr l h → Kept h (go (over su (proceed pr l (w .next su pr))))
     wish-kept pr l h v = proceed-kept pr l h (w .next su pr) (g .wish pr l h v) (g .cutWish pr l h v)
 
     -- a reply that is read, and one that can't be
-    reading-kept : (pr : Progress) (l : ℕ) (h : List Event) (r : Reply) (f : GetStatusMessage → Session) → c .always l h
-        → ((m : GetStatusMessage) → Kept (hears (stateByte (m .state)) ∷ h) (go (f m))) → Kept (shownBy r ++ h) (go (reading su pr l r f))
+    reading-kept : (pr : Progress) (l : ℕ) (h : List Event) (r : Reply) (f : GetStatusMessage → Moved) → c .always l h
+        → ((m : GetStatusMessage) → Kept (hears (stateByte (m .state)) ∷ h) (go (over su (f m)))) → Kept (shownBy r ++ h) (go (over su (reading pr l r f)))
     reading-kept pr l h (ShortReply got) f v k = refuse-kept pr l h _ tt v
     reading-kept pr l h (BadStatus status) f v k = refuse-kept pr l h _ tt v
     reading-kept pr l h (Read m) f v k = k m
 
     first-kept : (pr : Progress) (l : ℕ) (h : List Event) (m : GetStatusMessage) → c .atFirst pr l h
-        → Kept (hears (stateByte (m .state)) ∷ h) (go (onFirst su pr l m))
+        → Kept (hears (stateByte (m .state)) ∷ h) (go (over su (onFirst pr l m)))
     unfolding onFirst
     first-kept pr zero h m v = refuse-kept pr zero _ _ tt (g .hear zero h _ (g .cutFirst pr zero h v))
     first-kept pr (suc l) h m v = by (eqb (stateByte (m .state)) 10) (g .first pr l h (stateByte (m .state)) v)
       where
         by : (b : Bool)
             → pick b (c .atClear pr l (sends ClearStatus ∷ hears (stateByte (m .state)) ∷ h)) (c .atSecond pr l (sends GetStatus ∷ hears (stateByte (m .state)) ∷ h))
-            → Kept (hears (stateByte (m .state)) ∷ h) (go (issue su pr (suc l) pr (pick b Clear Second)))
+            → Kept (hears (stateByte (m .state)) ∷ h) (go (over su (issue pr (suc l) pr (pick b Clear Second))))
         by true v = record { setup = refl; holds = v }
         by false v = record { setup = refl; holds = v }
 
     second-kept : (pr : Progress) (l : ℕ) (h : List Event) (m : GetStatusMessage) → c .atSecond pr l h
-        → Kept (hears (stateByte (m .state)) ∷ h) (go (onSecond su pr l (w .next su pr) m))
+        → Kept (hears (stateByte (m .state)) ∷ h) (go (over su (onSecond pr l (w .next su pr) m)))
     unfolding onSecond
     second-kept pr l h m v =
-        picked (λ (s : Session). Kept (hears (stateByte (m .state)) ∷ h) (go s)) (eqb (stateByte (m .state)) 2) _ _
+        picked (λ (s : Moved). Kept (hears (stateByte (m .state)) ∷ h) (go (over su s))) (eqb (stateByte (m .state)) 2) _ _
         (λ e. wish-kept pr l _ (subst (λ (x : ℕ). c .atWish pr l (hears x ∷ h)) (sym (eqb-true _ _ e)) (g .second pr l h v)))
         (λ e. refuse-kept pr l _ _ tt (g .hear l h _ (g .cutSecond pr l h v)))
 
     poll-kept : (b t : State) (pr : Progress) (l : ℕ) (h : List Event) (m : GetStatusMessage) → c .looking b t pr l h
-        → Kept (hears (stateByte (m .state)) ∷ h) (go (onPoll su pr l b t (w .next su pr) m))
+        → Kept (hears (stateByte (m .state)) ∷ h) (go (over su (onPoll pr l b t (w .next su pr) m)))
     unfolding onPoll
     poll-kept b t pr l h m v =
         picked P (eqb (stateByte (m .state)) (stateByte t)) _ _
@@ -203,25 +201,25 @@ module _ (w : Work) (su : Setup) (c : Claims) where
         (λ f. refuse-kept pr l _ _ tt (g .hear l h _ (g .cutLooking b t pr l h v))))
       where
         P : Met → Type 0
-        P x = Kept (hears (stateByte (m .state)) ∷ h) (go (onMet su pr l b t (w .next su pr) x))
+        P x = Kept (hears (stateByte (m .state)) ∷ h) (go (over su (onMet pr l b t (w .next su pr) x)))
 
     -- a count: the wait begins, or the block was not taken whole
-    wait-kept : (pr : Progress) (l : ℕ) (h : List Event) (d : Command) → WaitingAt (waitAfter su d) pr l h → Kept h (go (mk su pr l (Waiting (waitAfter su d))))
-    wait-kept pr l h (Erase a) v = record { setup = refl; holds = v }
-    wait-kept pr l h (SetAddress a) v = record { setup = refl; holds = v }
-    wait-kept pr l h (Block b f m) v = record { setup = refl; holds = v }
-    wait-kept pr l h (Empty b) v = record { setup = refl; holds = v }
+    wait-kept : (pr : Progress) (l : ℕ) (h : List Event) (d : Command) (n : ℕ) → WaitingAt (waitAfter su d n) pr l h → Kept h (go (mk su pr l (Waiting (waitAfter su d n))))
+    wait-kept pr l h (Erase a) n v = record { setup = refl; holds = v }
+    wait-kept pr l h (SetAddress a) n v = record { setup = refl; holds = v }
+    wait-kept pr l h (Block b f m) n v = record { setup = refl; holds = v }
+    wait-kept pr l h (Empty b) n v = record { setup = refl; holds = v }
 
-    count-kept : (pr : Progress) (l : ℕ) (h : List Event) (d : Command) (n : ℕ) → SentAt d pr l h → Kept h (go (onCount su pr l d (w .took su pr d) n))
+    count-kept : (pr : Progress) (l : ℕ) (h : List Event) (d : Command) (n : ℕ) → SentAt d pr l h → Kept h (go (over su (onCount su pr l d (w .took su pr d n) n)))
     count-kept pr l h d n v =
-        picked (λ (s : Session). Kept h (go s)) (takenb d n) _ _ (λ e. wait-kept (w .took su pr d) l h d (v .1)) (λ e. refuse-kept pr l h _ tt (v .0))
+        picked (λ (s : Moved). Kept h (go (over su s))) (takenb d n) _ _ (λ e. wait-kept (w .took su pr d n) l h d n (v .1 n e)) (λ e. refuse-kept pr l h _ tt (v .0))
 
     -- one told answer
     pub kept : (p : Phase) (pr : Progress) (l : ℕ) (h : List Event) (a : Answer) → ClaimAt p pr l h
         → Kept (heardAt p a ++ h) (toldAt w su pr l p a)
     kept First pr l h (count n) v = stay-kept First pr l h _ v
     kept First pr l h (reply bs) v =
-        reading-kept pr l h (firstReply bs) (onFirst su pr l) (g .cutFirst pr l h v) (λ m. first-kept pr l h m v)
+        reading-kept pr l h (firstReply bs) (onFirst pr l) (g .cutFirst pr l h v) (λ m. first-kept pr l h m v)
     kept First pr l h waited v = stay-kept First pr l h _ v
     kept First pr l h wasReset v = stay-kept First pr l h _ v
     kept First pr l h failed v = refuse-kept pr l h _ tt (g .cutFirst pr l h v)
@@ -233,7 +231,7 @@ module _ (w : Work) (su : Setup) (c : Claims) where
     kept Clear pr l h failed v = refuse-kept pr l h _ tt (g .cutClear pr l h v)
     kept Second pr l h (count n) v = stay-kept Second pr l h _ v
     kept Second pr l h (reply bs) v =
-        reading-kept pr l h (laterReply bs) (onSecond su pr l (w .next su pr)) (g .cutSecond pr l h v) (λ m. second-kept pr l h m v)
+        reading-kept pr l h (laterReply bs) (onSecond pr l (w .next su pr)) (g .cutSecond pr l h v) (λ m. second-kept pr l h m v)
     kept Second pr l h waited v = stay-kept Second pr l h _ v
     kept Second pr l h wasReset v = stay-kept Second pr l h _ v
     kept Second pr l h failed v = refuse-kept pr l h _ tt (g .cutSecond pr l h v)
@@ -251,15 +249,15 @@ module _ (w : Work) (su : Setup) (c : Claims) where
     kept (Waiting (Pause b t ms)) pr l h failed v = stay-kept (Waiting (Pause b t ms)) pr l h _ v
     kept (Waiting (Poll b t)) pr l h (count n) v = stay-kept (Waiting (Poll b t)) pr l h _ v
     kept (Waiting (Poll b t)) pr l h (reply bs) v =
-        reading-kept pr l h (laterReply bs) (onPoll su pr l b t (w .next su pr)) (g .cutLooking b t pr l h v) (λ m. poll-kept b t pr l h m v)
+        reading-kept pr l h (laterReply bs) (onPoll pr l b t (w .next su pr)) (g .cutLooking b t pr l h v) (λ m. poll-kept b t pr l h m v)
     kept (Waiting (Poll b t)) pr l h waited v = stay-kept (Waiting (Poll b t)) pr l h _ v
     kept (Waiting (Poll b t)) pr l h wasReset v = stay-kept (Waiting (Poll b t)) pr l h _ v
     kept (Waiting (Poll b t)) pr l h failed v = refuse-kept pr l h _ tt (g .cutLooking b t pr l h v)
     kept Resetting pr l h (count n) v = stay-kept Resetting pr l h _ v
     kept Resetting pr l h (reply bs) v = stay-kept Resetting pr l h _ v
     kept Resetting pr l h waited v = stay-kept Resetting pr l h _ v
-    kept Resetting pr l h wasReset v = record { setup = refl; holds = g .reset l h v }
-    kept Resetting pr l h failed v = refuse-kept pr l h _ tt (g .cutResetting l h v)
+    kept Resetting pr l h wasReset v = record { setup = refl; holds = g .reset pr l h v }
+    kept Resetting pr l h failed v = refuse-kept pr l h _ tt (g .cutResetting pr l h v)
     kept (Finished e) pr l h a v = record { setup = refl; holds = v }
     kept (Refused e) pr l h a v = record { setup = refl; holds = v }
 
@@ -291,11 +289,11 @@ module _ (w : Work) (su : Setup) (c : Claims) where
       ((run-good g x more v) .holds)
 
   pub run-over : Holds → (x : World) (more : List Answer) → Good x → Over ((after w x more) .session .phase)
-      → (e : End) × ((after w x more) .session .phase ≡ Finished e) × c .finished e ((after w x more) .session .left) ((after w x more) .past)
+      → (e : End) × ((after w x more) .session .phase ≡ Finished e) × c .finished e ((after w x more) .session .progress) ((after w x more) .session .left) ((after w x more) .past)
   run-over g x more v o = by ((after w x more) .session .phase) ((run-good g x more v) .holds) o
     where
       by : (p : Phase) → ClaimAt p ((after w x more) .session .progress) ((after w x more) .session .left) ((after w x more) .past) → Over p
-          → (e : End) × (p ≡ Finished e) × c .finished e ((after w x more) .session .left) ((after w x more) .past)
+          → (e : End) × (p ≡ Finished e) × c .finished e ((after w x more) .session .progress) ((after w x more) .session .left) ((after w x more) .past)
       by First v o = absurd o
       by Clear v o = absurd o
       by Second v o = absurd o
@@ -306,10 +304,6 @@ module _ (w : Work) (su : Setup) (c : Claims) where
       by (Refused e) v o = absurd o
 
   -- the two ends, where the same is claimed of both
-  pub either-end : (l : ℕ) (h : List Event) → c .finished Stays l h → c .resetting l h → EndAt (endPhase su) l h
-  either-end l h f r = by (su .tolerant) (su .detach)
-    where
-      by : (t d : Bool) → EndAt (pick t (Finished Stays) (pick d (Finished Stays) Resetting)) l h
-      by true d = f
-      by false true = f
-      by false false = r
+  pub either-end : (pr : Progress) (l : ℕ) (h : List Event) (e : End) → c .finished Stays pr l h → c .resetting pr l h → EndAt (endPhase e) pr l h
+  either-end pr l h Stays f r = f
+  either-end pr l h Reset f r = r

@@ -11,33 +11,38 @@ use lib.Dec.{ltb}
 use borrow.Author.Tests.{ltb-true, ltb-false}
 use Rattle.ground.specs.Pick.{pick}
 use Rattle.ground.proofs.Tests.{picked}
-use Rattle.session.specs.Machine.{Work}
-use Rattle.session.specs.Download.{limit, endOf, blockCount, numberAt, blockLength, covering, passed, staged, entered, eraseNext, writeNext, nextAt, nextOf, tookOf, download}
-use Rattle.session.specs.Start.{fresh}
-use Rattle.session.specs.declared.Command.{Command}
-use Rattle.session.specs.declared.Command.the-variants.{Erase, SetAddress, Block, Empty}
-use Rattle.session.specs.declared.Stage.{Stage}
-use Rattle.session.specs.declared.Stage.the-variants.{Erasing, Writing, Ending}
-use Rattle.session.specs.declared.Setup.{Setup}
-use Rattle.session.specs.declared.Progress.{Progress}
-use Rattle.session.specs.declared.Todo.{Todo}
-use Rattle.session.specs.declared.Todo.the-variants.{Send, End as Ends, Refuse}
+use Rattle.work.specs.Work.{Work, wholeOf, limit, endOf, blockCount, numberAt, blockLength, staged, entered}
+use Rattle.download.specs.Download.{covering, passed, eraseNext, writeNext, nextAt, nextOf, tookOf, download}
+use Rattle.start.specs.Start.{fresh}
+use Rattle.wire.specs.declared.Command.{Command}
+use Rattle.wire.specs.declared.Command.the-variants.{Erase, SetAddress, Block, Empty}
+use Rattle.work.specs.declared.Stage.{Stage}
+use Rattle.work.specs.declared.Stage.the-variants.{Erasing, Writing, Ending}
+use Rattle.work.specs.declared.Setup.{Setup}
+use Rattle.work.specs.declared.Progress.{Progress}
+use Rattle.work.specs.declared.Todo.{Todo}
+use Rattle.work.specs.declared.Todo.the-variants.{Send, End as Ends, Refuse}
 use Rattle.plan.specs.Plan.{several, numberOf}
 use Rattle.plan.proofs.Pages.{covering-zero, covering-more}
-use Rattle.session.proofs.Fills.{blockCount-zero, blockCount-more, blockCount-pos, blockCount-next, blockCount-fill}
+use Rattle.work.proofs.Fills.{blockCount-zero, blockCount-more, blockCount-pos, blockCount-next, blockCount-fill}
 
 -- an erase for each page, from a position on
 unfoldable pub erases : ℕ → List ℕ → List Command
 erases at [] = []
 erases at (p ∷ ps) = Erase at ∷ erases (at + p) ps
 
--- c blocks from a place on, and the empty one; before it the address; before that the erases
-unfoldable pub blocks : Setup → ℕ → ℕ → List Command
-blocks su zero place = Empty (numberAt su place) ∷ []
-blocks su (suc c) place = Block (numberAt su place) place (blockLength su place) ∷ blocks su c (place + blockLength su place)
+-- c blocks of either direction from a place on, and what comes last
+unfoldable pub blocks : (ℕ → ℕ → ℕ → Command) → (ℕ → Command) → Setup → ℕ → ℕ → List Command
+blocks b z su zero place = z (numberAt su place) ∷ []
+blocks b z su (suc c) place = b (numberAt su place) place (blockLength su place) ∷ blocks b z su c (place + blockLength su place)
 
+-- those that are left at a place
+unfoldable pub row : (ℕ → ℕ → ℕ → Command) → (ℕ → Command) → Setup → ℕ → List Command
+row b z su at = blocks b z su (blockCount (su .length - at) (su .size)) at
+
+-- a download's, with the empty block; before it the address; before that the erases
 unfoldable pub writeLeft : Setup → Progress → List Command
-writeLeft su pr = blocks su (blockCount (su .length - pr .accepted) (su .size)) (pr .accepted)
+writeLeft su pr = row Block Empty su (pr .accepted)
 
 unfoldable pub eraseLeft : List ℕ → Setup → Progress → List Command
 eraseLeft ps su pr = erases (pr .erased) (covering (endOf su - pr .erased) (drop (pr .page) ps)) ++ (SetAddress (su .address) ∷ writeLeft su pr)
@@ -51,24 +56,33 @@ abbrev pub left : List ℕ → Setup → Progress → List Command
 left ps su pr = leftAt (pr .stage) ps su pr
 
 -- the head of each list
+module _ (b : ℕ → ℕ → ℕ → Command) (z : ℕ → Command) (su : Setup) where
+  pub row-more : (at : ℕ) → 0 < su .size → at < su .length
+      → b (numberAt su at) at (blockLength su at) ∷ row b z su (min (su .length) (at + blockLength su at)) ≡ row b z su at
+  unfolding row blocks
+  row-more at h k =
+      let head : Command = b (numberAt su at) at (blockLength su at) in
+      let e : min (su .length) (at + blockLength su at) ≡ at + blockLength su at = omega arith in
+      let y : su .length - (at + blockLength su at) ≡ su .length - at - su .size = omega arith in
+      ap (λ (x : ℕ). head ∷ blocks b z su (blockCount (su .length - x) (su .size)) x) e
+      ∙ ap (λ (x : ℕ). head ∷ blocks b z su (blockCount x (su .size)) (at + blockLength su at)) y
+      ∙ ap (λ (c : ℕ). blocks b z su c at) (sym (blockCount-more (su .length - at) (su .size) h (omega arith)))
+
+  pub row-done : (at : ℕ) → 0 < su .size → su .length ≤ at → z (numberAt su at) ∷ [] ≡ row b z su at
+  unfolding row blocks
+  row-done at h k =
+      let y : 0 ≡ su .length - at = omega arith in
+      ap (λ (c : ℕ). blocks b z su c at) (sym (blockCount-zero (su .size) h))
+      ∙ ap (λ (x : ℕ). blocks b z su (blockCount x (su .size)) at) y
+
 writeLeft-more : (su : Setup) (pr : Progress) → 0 < su .size → pr .accepted < su .length
     → Block (numberAt su (pr .accepted)) (pr .accepted) (blockLength su (pr .accepted)) ∷ writeLeft su (entered su (staged Writing pr) (blockLength su (pr .accepted))) ≡ writeLeft su pr
-unfolding writeLeft blocks
-writeLeft-more su pr h k =
-    let at : ℕ = pr .accepted in
-    let head : Command = Block (numberAt su at) at (blockLength su at) in
-    let z : min (su .length) (at + blockLength su at) ≡ at + blockLength su at = omega arith in
-    let y : su .length - (at + blockLength su at) ≡ su .length - at - su .size = omega arith in
-    ap (λ (x : ℕ). head ∷ blocks su (blockCount (su .length - x) (su .size)) x) z
-    ∙ ap (λ (x : ℕ). head ∷ blocks su (blockCount x (su .size)) (at + blockLength su at)) y
-    ∙ ap (λ (c : ℕ). blocks su c at) (sym (blockCount-more (su .length - at) (su .size) h (omega arith)))
+unfolding writeLeft
+writeLeft-more su pr h k = row-more Block Empty su (pr .accepted) h k
 
 writeLeft-done : (su : Setup) (pr : Progress) → 0 < su .size → su .length ≤ pr .accepted → Empty (numberAt su (pr .accepted)) ∷ [] ≡ writeLeft su pr
-unfolding writeLeft blocks
-writeLeft-done su pr h k =
-    let z : 0 ≡ su .length - pr .accepted = omega arith in
-    ap (λ (c : ℕ). blocks su c (pr .accepted)) (sym (blockCount-zero (su .size) h))
-    ∙ ap (λ (x : ℕ). blocks su (blockCount x (su .size)) (pr .accepted)) z
+unfolding writeLeft
+writeLeft-done su pr h k = row-done Block Empty su (pr .accepted) h k
 
 eraseLeft-more : (ps : List ℕ) (su : Setup) (pr : Progress) → pr .erased < endOf su → pr .page < length ps
     → Erase (pr .erased) ∷ eraseLeft ps su (passed pr (getD ps (pr .page) 0)) ≡ eraseLeft ps su pr
@@ -90,8 +104,8 @@ eraseLeft-done ps su pr h =
 
 -- a wish is the head of what is still wanted
 abbrev pub Heads : Work → (Progress → List Command) → Setup → List Command → Todo → Type 0
-Heads w left su r (Send c then) = c ∷ left (w .took su then c) ≡ r
-Heads w left su r Ends = [] ≡ r
+Heads w left su r (Send c then) = c ∷ left (w .took su then c (wholeOf c)) ≡ r
+Heads w left su r (Ends e) = [] ≡ r
 Heads w left su r (Refuse e) = Unit
 
 headsAt : (st : Stage) (ps : List ℕ) (su : Setup) (pr : Progress) → 0 < su .size → Heads (download ps) (left ps su) su (leftAt st ps su pr) (nextAt st ps su pr)
@@ -137,18 +151,24 @@ wanted su ps = prepared su ps ++ (several (blockAt su) 0 (blocksOf su) ++ (Empty
 number-of : (su : Setup) (i place : ℕ) → blockCount place (su .size) ≡ i → numberAt su place ≡ numberOf (su .dfuse) i
 number-of su i place q = ap (λ (n : ℕ). (pick (su .dfuse) 2 0 + n) % 65536) q
 
-blocks-several : (su : Setup) (c i place : ℕ) → 0 < su .size → blockCount (su .length - i * su .size) (su .size) ≡ c → (0 < c → place ≡ i * su .size)
-    → blockCount place (su .size) ≡ i → blocks su c place ≡ several (blockAt su) i c ++ (Empty (numberOf (su .dfuse) (i + c)) ∷ [])
-unfolding blocks several blockAt
-blocks-several su zero i place h e p q = ap (λ (x : ℕ). Empty x ∷ []) (number-of su i place q ∙ ap (numberOf (su .dfuse)) (omega arith))
-blocks-several su (suc c) i place h e p q =
-    let z : place ≡ i * su .size = p (omega arith) in
+-- the i-th of either direction
+unfoldable pub nth : (ℕ → ℕ → ℕ → Command) → Setup → ℕ → Command
+nth b su i = b (numberOf (su .dfuse) i) (i * su .size) (min (su .size) (su .length - i * su .size))
+
+pub blocks-several : (b : ℕ → ℕ → ℕ → Command) (z : ℕ → Command) (su : Setup) (c i place : ℕ) → 0 < su .size → blockCount (su .length - i * su .size) (su .size) ≡ c
+    → (0 < c → place ≡ i * su .size) → blockCount place (su .size) ≡ i → blocks b z su c place ≡ several (nth b su) i c ++ (z (numberOf (su .dfuse) (i + c)) ∷ [])
+unfolding blocks several nth
+blocks-several b z su zero i place h e p q =
+    let same : numberAt su place ≡ numberOf (su .dfuse) (i + 0) = number-of su i place q ∙ ap (numberOf (su .dfuse)) (omega arith) in
+    ap (λ (x : ℕ). z x ∷ []) same
+blocks-several b z su (suc c) i place h e p q =
+    let at : place ≡ i * su .size = p (omega arith) in
     let n : numberAt su place ≡ numberOf (su .dfuse) i = number-of su i place q in
-    let head : Block (numberAt su place) place (blockLength su place) ≡ blockAt su i = cc in
-    ap (λ (x : Command). x ∷ blocks su c (place + blockLength su place)) head
-    ∙ ap (λ (x : List Command). blockAt su i ∷ x)
-    (blocks-several su c (suc i) (place + blockLength su place) h (blockCount-next (su .length) (su .size) i c h e) far full
-    ∙ ap (λ (x : ℕ). several (blockAt su) (suc i) c ++ (Empty (numberOf (su .dfuse) x) ∷ [])) (omega arith))
+    ap (λ (x : ℕ). b x place (blockLength su place) ∷ blocks b z su c (place + blockLength su place)) n
+    ∙ ap (λ (x : ℕ). b (numberOf (su .dfuse) i) x (blockLength su x) ∷ blocks b z su c (place + blockLength su place)) at
+    ∙ ap (λ (x : List Command). nth b su i ∷ x)
+    (blocks-several b z su c (suc i) (place + blockLength su place) h (blockCount-next (su .length) (su .size) i c h e) far full
+    ∙ ap (λ (x : ℕ). several (nth b su) (suc i) c ++ (z (numberOf (su .dfuse) x) ∷ [])) (omega arith))
   where
     far : 0 < c → place + blockLength su place ≡ suc i * su .size
     far k =
@@ -162,12 +182,22 @@ blocks-several su (suc c) i place h e p q =
         let more : 0 < su .length - i * su .size = blockCount-pos _ _ h (omega (arith, e)) in
         ap (λ (x : ℕ). blockCount (x + blockLength su place) (su .size)) z ∙ blockCount-fill (su .size) i (blockLength su place) (omega arith) (omega arith)
 
+pub fresh-row : (b : ℕ → ℕ → ℕ → Command) (z : ℕ → Command) (su : Setup) → 0 < su .size
+    → row b z su 0 ≡ several (nth b su) 0 (blocksOf su) ++ (z (numberOf (su .dfuse) (blocksOf su)) ∷ [])
+unfolding row
+fresh-row b z su h =
+    ap (λ (x : ℕ). blocks b z su (blockCount x (su .size)) 0) (omega arith)
+    ∙ blocks-several b z su (blocksOf su) 0 0 h (ap (λ (x : ℕ). blockCount x (su .size)) (omega arith)) (λ k. omega arith) (blockCount-zero (su .size) h)
+    ∙ ap (λ (x : ℕ). several (nth b su) 0 (blocksOf su) ++ (z (numberOf (su .dfuse) x) ∷ [])) (omega arith)
+
+several-same : (su : Setup) (i c : ℕ) → several (nth Block su) i c ≡ several (blockAt su) i c
+unfolding several nth blockAt
+several-same su i zero = refl
+several-same su i (suc c) = ap (λ (x : List Command). blockAt su i ∷ x) (several-same su (suc i) c)
+
 fresh-blocks : (su : Setup) → 0 < su .size → writeLeft su (fresh su) ≡ several (blockAt su) 0 (blocksOf su) ++ (Empty (numberOf (su .dfuse) (blocksOf su)) ∷ [])
 unfolding writeLeft
-fresh-blocks su h =
-    ap (λ (x : ℕ). blocks su (blockCount x (su .size)) 0) (omega arith)
-    ∙ blocks-several su (blocksOf su) 0 0 h (ap (λ (x : ℕ). blockCount x (su .size)) (omega arith)) (λ k. omega arith) (blockCount-zero (su .size) h)
-    ∙ ap (λ (x : ℕ). several (blockAt su) 0 (blocksOf su) ++ (Empty (numberOf (su .dfuse) x) ∷ [])) (omega arith)
+fresh-blocks su h = fresh-row Block Empty su h ∙ ap (λ (x : List Command). x ++ (Empty (numberOf (su .dfuse) (blocksOf su)) ∷ [])) (several-same su 0 (blocksOf su))
 
 -- WHAT IS WANTED AT THE START
 pub fresh-wanted : (ps : List ℕ) (su : Setup) → 0 < su .size → left ps su (fresh su) ≡ wanted su ps

@@ -11,19 +11,20 @@ use Rattle.get_status.specs.Names.{stateByte}
 use Rattle.get_status.specs.declared.State.{State}
 use Rattle.get_status.specs.declared.State.the-variants.{DfuIdle, DfuManifest}
 use Rattle.protocol.specs.declared.DfuProtocol.{DfuProtocol}
-use Rattle.session.specs.Machine.{Answer, mk, waitAfter}
-use Rattle.session.specs.Download.{download, nextOf, tookOf}
-use Rattle.session.specs.Start.{setupOf, fresh}
-use Rattle.session.specs.declared.Command.{Command}
-use Rattle.session.specs.declared.Command.the-variants.{Erase, SetAddress, Block, Empty}
-use Rattle.session.specs.declared.Request.the-variants.{GetStatus, ClearStatus, Command as Commands}
-use Rattle.session.specs.declared.Phase.the-variants.{First}
-use Rattle.session.specs.declared.Setup.{Setup}
-use Rattle.session.specs.declared.Progress.{Progress}
+use Rattle.work.specs.Work.{waitAfter}
+use Rattle.session.specs.Told.{Answer, mk}
+use Rattle.download.specs.Download.{download, nextOf, tookOf}
+use Rattle.start.specs.Start.{setupOf, fresh}
+use Rattle.wire.specs.declared.Command.{Command}
+use Rattle.wire.specs.declared.Command.the-variants.{Erase, SetAddress, Block, Empty}
+use Rattle.wire.specs.declared.Request.the-variants.{GetStatus, ClearStatus, Command as Commands}
+use Rattle.machine.specs.declared.Phase.the-variants.{First}
+use Rattle.work.specs.declared.Setup.{Setup}
+use Rattle.work.specs.declared.Progress.{Progress}
 use Rattle.session.specs.declared.Session.{Session}
-use Rattle.session.specs.declared.Todo.{Todo}
-use Rattle.session.specs.declared.Todo.the-variants.{Send, End as Ends, Refuse}
-use Rattle.session.specs.declared.start.DfuSansIo.{DfuSansIo}
+use Rattle.work.specs.declared.Todo.{Todo}
+use Rattle.work.specs.declared.Todo.the-variants.{Send, End as Ends, Refuse}
+use Rattle.start.specs.declared.DfuSansIo.{DfuSansIo}
 use Rattle.promises.specs.Run.{Event, sends, hears, opened, after, inTime, Over}
 use Rattle.plan.specs.Sent.{onWire, Begins}
 use Rattle.promises.specs.Whole.{opening, busyAfter, targetAfter, looks, Round, roundOf, rounds, requestOf, Listed}
@@ -106,36 +107,36 @@ told ps su all = record {
   atWish = λ pr l h. Sofar (su .tolerant) all h [] (left ps su pr);
   pausing = λ b t pr l h. On (su .tolerant) all b t h [] (left ps su pr);
   looking = λ b t pr l h. On (su .tolerant) all b t h (sends GetStatus ∷ []) (left ps su pr);
-  resetting = λ l h. Sofar (su .tolerant) all h [] [];
-  finished = λ e l h. Sofar (su .tolerant) all h [] [];
+  resetting = λ pr l h. Sofar (su .tolerant) all h [] [];
+  finished = λ e pr l h. Sofar (su .tolerant) all h [] [];
   refused = λ e l h. Unit;
   always = λ l h. Unit;
 }
 
 module _ (ps : List ℕ) (su : Setup) (all : List Command) where
   -- a request is sent, and its wait begins
-  begins-round : (c : Command) (h : List Event) (pr : Progress) (l : ℕ) → Sofar (su .tolerant) all (sends (Commands c) ∷ h) (sends (Commands c) ∷ []) (c ∷ left ps su pr)
-      → WaitingAt (download ps) su (told ps su all) (waitAfter su c) pr l (sends (Commands c) ∷ h)
+  begins-round : (c : Command) (k : ℕ) (h : List Event) (pr : Progress) (l : ℕ) → Sofar (su .tolerant) all (sends (Commands c) ∷ h) (sends (Commands c) ∷ []) (c ∷ left ps su pr)
+      → WaitingAt (download ps) su (told ps su all) (waitAfter su c k) pr l (sends (Commands c) ∷ h)
   unfolding looks
-  begins-round (Erase a) h pr l v = record { c = Erase a; n = 0; busy = refl; target = refl; sofar = v }
-  begins-round (SetAddress a) h pr l v = record { c = SetAddress a; n = 0; busy = refl; target = refl; sofar = v }
-  begins-round (Block n f m) h pr l v = record { c = Block n f m; n = 0; busy = refl; target = refl; sofar = v }
-  begins-round (Empty n) h pr l v = record { c = Empty n; n = 0; busy = refl; target = by (su .tolerant); sofar = v }
+  begins-round (Erase a) k h pr l v = record { c = Erase a; n = 0; busy = refl; target = refl; sofar = v }
+  begins-round (SetAddress a) k h pr l v = record { c = SetAddress a; n = 0; busy = refl; target = refl; sofar = v }
+  begins-round (Block n f m) k h pr l v = record { c = Block n f m; n = 0; busy = refl; target = refl; sofar = v }
+  begins-round (Empty n) k h pr l v = record { c = Empty n; n = 0; busy = refl; target = by (su .tolerant); sofar = v }
     where
       by : (b : Bool) → stateByte (pick b DfuIdle DfuManifest) ≡ pick b 2 7
       by true = refl
       by false = refl
 
   wished : (pr : Progress) (l : ℕ) (h : List Event) (t : Todo) → Heads (download ps) (left ps su) su (left ps su pr) t → Sofar (su .tolerant) all h [] (left ps su pr)
-      → Wished (download ps) su (told ps su all) l h t
+      → Wished (download ps) su (told ps su all) pr l h t
   wished pr l h (Send c then) e v =
       let on : Sofar (su .tolerant) all (sends (Commands c) ∷ h) (sends (Commands c) ∷ []) (c ∷ left ps su (tookOf su then c)) =
       subst (λ (x : List Command). Sofar (su .tolerant) all (sends (Commands c) ∷ h) (sends (Commands c) ∷ []) x) (sym e)
       (append-more (su .tolerant) all h [] (sends (Commands c)) (left ps su pr) v) in
-      λ m z. (tt, begins-round c h (tookOf su then c) m on)
-  wished pr l h Ends e v =
-      let all-done : Sofar (su .tolerant) all h [] [] = subst (λ (x : List Command). Sofar (su .tolerant) all h [] x) (sym e) v in
-      either-end (download ps) su (told ps su all) l h all-done all-done
+      λ m z. (tt, λ k f. begins-round c k h (tookOf su then c) m on)
+  wished pr l h (Ends x) e v =
+      let all-done : Sofar (su .tolerant) all h [] [] = subst (λ (y : List Command). Sofar (su .tolerant) all h [] y) (sym e) v in
+      either-end (download ps) su (told ps su all) pr l h x all-done all-done
   wished pr l h (Refuse x) e v = tt
 
   -- one more busy reply, or the target
@@ -208,9 +209,9 @@ module _ (ps : List ℕ) (su : Setup) (all : List Command) where
     cutWish = λ pr l h v. tt;
     cutPausing = λ b t pr l h v. tt;
     cutLooking = λ b t pr l h v. tt;
-    reset = λ l h v. v;
-    cutResetting = λ l h v. tt;
-    cutFinished = λ e l h v. tt;
+    reset = λ pr l h v. v;
+    cutResetting = λ pr l h v. tt;
+    cutFinished = λ e pr l h v. tt;
     cutRefused = λ e l h v. tt;
     deny = λ e l h d v. tt;
     hear = λ l h st v. tt;

@@ -5,11 +5,12 @@ use mathlib.Core.List.{List, [], _∷_}
 use lib.ListN.{length}
 use Rattle.get_status.specs.Names.{statusByte}
 use Rattle.get_status.specs.Reply.{messageOf}
-use Rattle.session.specs.Machine.{Answer, count, reply, waited, wasReset, failed, Work, told}
-use Rattle.session.specs.declared.Wait.the-variants.{Pause, Poll}
-use Rattle.session.specs.declared.Phase.{Phase}
-use Rattle.session.specs.declared.Phase.the-variants.{First, Clear, Second, Sent, Waiting, Resetting, Finished, Refused}
-use Rattle.session.specs.declared.Command.{Command}
+use Rattle.work.specs.Work.{Work}
+use Rattle.session.specs.Told.{Answer, count, reply, waited, wasReset, failed, told}
+use Rattle.work.specs.declared.Wait.the-variants.{Pause, Poll}
+use Rattle.machine.specs.declared.Phase.{Phase}
+use Rattle.machine.specs.declared.Phase.the-variants.{First, Clear, Second, Sent, Waiting, Resetting, Finished, Refused}
+use Rattle.wire.specs.declared.Command.{Command}
 use Rattle.session.specs.declared.Session.{Session}
 use Rattle.session.specs.declared.Step.{Step}
 use Rattle.promises.specs.Run.{Taken}

@@ -5,12 +5,13 @@ use mathlib.Core.Bool.{Bool, true}
 use mathlib.Core.List.{List, [], _∷_, _++_}
 use lib.ListN.{length}
 use Rattle.ground.specs.Pick.{pick}
-use Rattle.session.specs.Machine.{Answer, asksAt}
-use Rattle.session.specs.Download.{asAtStart, guardOf, Outcome, out, callOf}
+use Rattle.machine.specs.Machine.{asksAt}
+use Rattle.session.specs.Told.{Answer}
+use Rattle.session.specs.Calls.{asAtStart, guardOf, Outcome, out, callOf}
 use Rattle.session.specs.declared.Guard.{Guard}
 use Rattle.session.specs.declared.Guard.the-variants.{Open, Shut}
-use Rattle.session.specs.declared.Phase.{Phase}
-use Rattle.session.specs.declared.Setup.{Setup}
+use Rattle.machine.specs.declared.Phase.{Phase}
+use Rattle.work.specs.declared.Setup.{Setup}
 use Rattle.session.specs.declared.Session.{Session}
 use Rattle.promises.specs.Run.{Event, sentBy, heardAt, World}
 

@@ -11,19 +11,20 @@ use Rattle.get_status.specs.Reply.{messageOf}
 use Rattle.get_status.specs.declared.GetStatusMessage.{GetStatusMessage}
 use Rattle.memory_layout.specs.Layout.{maxPages}
 use Rattle.protocol.specs.declared.DfuProtocol.{DfuProtocol}
-use Rattle.session.specs.Machine.{Answer, count, reply, waited, wasReset, failed, Work, told}
-use Rattle.session.specs.Download.{limit, blockCount, covering}
-use Rattle.session.specs.Start.{dfuseb, targetOf, maxBlocks}
-use Rattle.session.specs.declared.Wait.the-variants.{Pause, Poll}
-use Rattle.session.specs.declared.End.{End}
-use Rattle.session.specs.declared.End.the-variants.{Stays, Reset}
-use Rattle.session.specs.declared.Phase.{Phase}
-use Rattle.session.specs.declared.Phase.the-variants.{First, Clear, Second, Sent, Waiting, Resetting, Finished, Refused}
+use Rattle.work.specs.Work.{Work, limit, blockCount}
+use Rattle.session.specs.Told.{Answer, count, reply, waited, wasReset, failed, told}
+use Rattle.download.specs.Download.{covering}
+use Rattle.start.specs.Start.{dfuseb, targetOf, maxBlocks}
+use Rattle.work.specs.declared.Wait.the-variants.{Pause, Poll}
+use Rattle.work.specs.declared.End.{End}
+use Rattle.work.specs.declared.End.the-variants.{Stays, Reset}
+use Rattle.machine.specs.declared.Phase.{Phase}
+use Rattle.machine.specs.declared.Phase.the-variants.{First, Clear, Second, Sent, Waiting, Resetting, Finished, Refused}
 use Rattle.session.specs.declared.Session.{Session}
 use Rattle.session.specs.declared.Step.{Step}
-use Rattle.session.specs.declared.Ask.{Ask}
-use Rattle.session.specs.declared.Ask.the-variants.{Transfer, Wait as WaitFor, Reset as ResetBus, Finished as HasFinished, Refused as SaysNo}
-use Rattle.session.specs.declared.start.DfuSansIo.{DfuSansIo}
+use Rattle.machine.specs.declared.Ask.{Ask}
+use Rattle.machine.specs.declared.Ask.the-variants.{Transfer, Wait as WaitFor, Reset as ResetBus, Finished as HasFinished, Refused as SaysNo}
+use Rattle.start.specs.declared.DfuSansIo.{DfuSansIo}
 use Rattle.plan.specs.Plan.{sum, commands}
 use Rattle.promises.specs.Run.{Taken}
 

@@ -4,12 +4,12 @@ use mathlib.Core.Path.{_≡_}
 use mathlib.Core.List.{List}
 use lib.ListN.{length}
 use Rattle.protocol.specs.declared.DfuProtocol.{DfuProtocol}
-use Rattle.session.specs.Machine.{Answer, told}
-use Rattle.session.specs.Download.{download}
-use Rattle.session.specs.declared.Phase.the-variants.{Finished}
+use Rattle.session.specs.Told.{Answer, told}
+use Rattle.download.specs.Download.{download}
+use Rattle.machine.specs.declared.Phase.the-variants.{Finished}
 use Rattle.session.specs.declared.Session.{Session}
 use Rattle.session.specs.declared.Step.{Step}
-use Rattle.session.specs.declared.start.DfuSansIo.{DfuSansIo}
+use Rattle.start.specs.declared.DfuSansIo.{DfuSansIo}
 use Rattle.promises.specs.Run.{opened, afterBy, transfers, cleared, Unrefused}
 use Rattle.promises.specs.Fair.{heededBy, AllYesBy, requestsOf, bound, answersFor, endOfRun}
 

@@ -1,9 +1,9 @@
 -- What refusal 3 was for: a block must not end at or past 2^32, counted from the target's address.
 use Prim.Native.Nat.{ℕ, _+_, _<_}
 use mathlib.Core.List.{List, [], _∷_}
-use Rattle.session.specs.Download.{limit}
-use Rattle.session.specs.declared.Command.{Command}
-use Rattle.session.specs.declared.Command.the-variants.{Erase, SetAddress, Block, Empty}
+use Rattle.work.specs.Work.{limit}
+use Rattle.wire.specs.declared.Command.{Command}
+use Rattle.wire.specs.declared.Command.the-variants.{Erase, SetAddress, Block, Empty}
 
 abbrev pub EndsBelow : ℕ → Command → Type 0
 EndsBelow address (Erase a) = Unit

@@ -6,29 +6,31 @@ use lib.Dec.{ltb}
 use lib.ListN.{length}
 use Rattle.ground.specs.Pick.{pick}
 use Rattle.protocol.specs.declared.DfuProtocol.{DfuProtocol}
-use Rattle.session.specs.Machine.{Answer, count, reply, waited, wasReset, failed, wholeOf, mk, proceed, go, stay, told}
-use Rattle.session.specs.Download.{download, eraseNext, nextOf, tookOf}
-use Rattle.session.specs.Start.{beginOf}
-use Rattle.session.specs.declared.Command.{Command}
-use Rattle.session.specs.declared.Command.the-variants.{Erase, SetAddress, Block, Empty}
-use Rattle.session.specs.declared.Request.the-variants.{GetStatus}
-use Rattle.session.specs.declared.Error.the-variants.{NotAwaited}
-use Rattle.session.specs.declared.End.the-variants.{Stays}
-use Rattle.session.specs.declared.Stage.{Stage}
-use Rattle.session.specs.declared.Stage.the-variants.{Erasing, Writing, Ending}
-use Rattle.session.specs.declared.Phase.{Phase}
-use Rattle.session.specs.declared.Phase.the-variants.{First, Clear, Second, Sent, Waiting, Resetting, Finished, Refused}
-use Rattle.session.specs.declared.Setup.{Setup}
-use Rattle.session.specs.declared.Progress.{Progress}
+use Rattle.work.specs.Work.{wholeOf}
+use Rattle.machine.specs.Machine.{proceed}
+use Rattle.session.specs.Told.{Answer, count, reply, waited, wasReset, failed, mk, over, go, stay, told}
+use Rattle.download.specs.Download.{download, eraseNext, nextOf, tookOf}
+use Rattle.start.specs.Start.{beginOf}
+use Rattle.wire.specs.declared.Command.{Command}
+use Rattle.wire.specs.declared.Command.the-variants.{Erase, SetAddress, Block, Empty}
+use Rattle.wire.specs.declared.Request.the-variants.{GetStatus}
+use Rattle.work.specs.declared.Error.the-variants.{NotAwaited}
+use Rattle.work.specs.declared.End.the-variants.{Stays}
+use Rattle.work.specs.declared.Stage.{Stage}
+use Rattle.work.specs.declared.Stage.the-variants.{Erasing, Writing, Ending}
+use Rattle.machine.specs.declared.Phase.{Phase}
+use Rattle.machine.specs.declared.Phase.the-variants.{First, Clear, Second, Sent, Waiting, Resetting, Finished, Refused}
+use Rattle.work.specs.declared.Setup.{Setup}
+use Rattle.work.specs.declared.Progress.{Progress}
 use Rattle.session.specs.declared.Session.{Session}
-use Rattle.session.specs.declared.Todo.{Todo}
-use Rattle.session.specs.declared.Todo.the-variants.{Send, End as Ends, Refuse}
-use Rattle.session.specs.declared.Ask.the-variants.{Transfer}
+use Rattle.work.specs.declared.Todo.{Todo}
+use Rattle.work.specs.declared.Todo.the-variants.{Send, End as Ends, Refuse}
+use Rattle.machine.specs.declared.Ask.the-variants.{Transfer}
 use Rattle.session.specs.declared.Step.{Step}
-use Rattle.session.specs.declared.start.DfuSansIo.{DfuSansIo}
-use Rattle.session.specs.declared.start.StartError.the-variants.{NoSpaceLeft}
-use Rattle.session.specs.declared.start.Started.{Started}
-use Rattle.session.specs.declared.start.Started.the-variants.{Session as Begun, Refused as Unbegun}
+use Rattle.start.specs.declared.DfuSansIo.{DfuSansIo}
+use Rattle.start.specs.declared.StartError.the-variants.{NoSpaceLeft}
+use Rattle.start.specs.declared.Started.{Started}
+use Rattle.start.specs.declared.Started.the-variants.{Session as Begun, Refused as Unbegun}
 use Rattle.plan.specs.Plan.{Dnload}
 use Rattle.promises.specs.Run.{opened, afterBy, transfers, commanded, cleared, Over}
 use Rattle.plan.specs.Sent.{onWire, planOf}
@@ -115,7 +117,7 @@ hasty = record { start = beginOf; told = λ ps s a. go (mk (s .setup) (s .progre
 
 -- blocks without asking for status: a count leads to the next request at once
 abbrev pub atOnce : List ℕ → Setup → ℕ → Progress → Session
-atOnce ps su l then = proceed su then l (nextOf ps su then)
+atOnce ps su l then = over su (proceed then l (nextOf ps su then))
 
 -- ours, but for the count of a command, from which it makes a step of its own
 abbrev pub countBy : List ℕ → (Command → Step) → Session → Phase → Answer → Step
@@ -155,11 +157,11 @@ oneUp (Send (Erase a) then) = Send (Erase a) then
 oneUp (Send (SetAddress a) then) = Send (SetAddress a) then
 oneUp (Send (Block n f m) then) = Send (Block (n + 1) f m) then
 oneUp (Send (Empty n) then) = Send (Empty (n + 1)) then
-oneUp Ends = Ends
+oneUp (Ends e) = Ends e
 oneUp (Refuse e) = Refuse e
 
 abbrev pub numberedFromThree : Machine
-numberedFromThree = record { start = beginOf; told = λ ps s a. told (record { next = λ su pr. oneUp (nextOf ps su pr); took = tookOf }) s a }
+numberedFromThree = record { start = beginOf; told = λ ps s a. told (record { next = λ su pr. oneUp (nextOf ps su pr); took = λ su pr c n. tookOf su pr c }) s a }
 
 -- one page more: the erases go on to one byte past the target
 abbrev pub longer : Setup → Setup
@@ -181,7 +183,7 @@ onePageMoreAt Ending ps su pr = nextOf ps su pr
 abbrev pub onePageMore : Machine
 onePageMore = record {
   start = beginOf;
-  told = λ ps s a. told (record { next = λ su pr. onePageMoreAt (pr .stage) ps su pr; took = tookOf }) s a;
+  told = λ ps s a. told (record { next = λ su pr. onePageMoreAt (pr .stage) ps su pr; took = λ su pr c n. tookOf su pr c }) s a;
 }
 
 -- the address set twice: once more before the first block, which the page index marks
@@ -201,5 +203,5 @@ twiceAt Ending ps su pr = nextOf ps su pr
 abbrev pub addressTwice : Machine
 addressTwice = record {
   start = beginOf;
-  told = λ ps s a. told (record { next = λ su pr. twiceAt (pr .stage) ps su pr; took = tookOf }) s a;
+  told = λ ps s a. told (record { next = λ su pr. twiceAt (pr .stage) ps su pr; took = λ su pr c n. tookOf su pr c }) s a;
 }

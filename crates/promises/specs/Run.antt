@@ -5,18 +5,20 @@ use mathlib.Core.List.{List, [], _∷_, _++_}
 use Rattle.get_status.specs.Names.{stateByte}
 use Rattle.get_status.specs.declared.Reply.{Reply}
 use Rattle.get_status.specs.declared.Reply.the-variants.{ResponseTooShort as ShortReply, StatusError as BadStatus, Read}
-use Rattle.session.specs.Machine.{Answer, count, reply, waited, wasReset, failed, Work, firstReply, laterReply, asksAt, told}
+use Rattle.work.specs.Work.{Work}
+use Rattle.machine.specs.Machine.{firstReply, laterReply, asksAt}
+use Rattle.session.specs.Told.{Answer, count, reply, waited, wasReset, failed, told}
 use Rattle.session.specs.declared.Session.{Session}
-use Rattle.session.specs.declared.Command.{Command}
-use Rattle.session.specs.declared.Command.the-variants.{Erase, SetAddress, Block, Empty}
-use Rattle.session.specs.declared.Request.{Request}
-use Rattle.session.specs.declared.Request.the-variants.{GetStatus, ClearStatus, Command as Commands}
-use Rattle.session.specs.declared.Wait.the-variants.{Pause, Poll}
-use Rattle.session.specs.declared.Phase.{Phase}
-use Rattle.session.specs.declared.Phase.the-variants.{First, Clear, Second, Sent, Waiting, Resetting, Finished, Refused}
+use Rattle.wire.specs.declared.Command.{Command}
+use Rattle.wire.specs.declared.Command.the-variants.{Erase, SetAddress, Block, Empty}
+use Rattle.wire.specs.declared.Request.{Request}
+use Rattle.wire.specs.declared.Request.the-variants.{GetStatus, ClearStatus, Command as Commands}
+use Rattle.work.specs.declared.Wait.the-variants.{Pause, Poll}
+use Rattle.machine.specs.declared.Phase.{Phase}
+use Rattle.machine.specs.declared.Phase.the-variants.{First, Clear, Second, Sent, Waiting, Resetting, Finished, Refused}
 use Rattle.session.specs.declared.Step.{Step}
-use Rattle.session.specs.declared.Ask.{Ask}
-use Rattle.session.specs.declared.Ask.the-variants.{Transfer, Wait as WaitFor, Reset as ResetBus, Finished as HasFinished, Refused as SaysNo}
+use Rattle.machine.specs.declared.Ask.{Ask}
+use Rattle.machine.specs.declared.Ask.the-variants.{Transfer, Wait as WaitFor, Reset as ResetBus, Finished as HasFinished, Refused as SaysNo}
 
 -- what happens: a transfer is issued, an awaited reply shows a state
 pub data Event : Type 0 where

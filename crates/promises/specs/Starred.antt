@@ -10,20 +10,21 @@ use Rattle.memory_layout.specs.Layout as layout
 use Rattle.protocol.specs.Interface as protocol
 use Rattle.protocol.specs.declared.DfuProtocol.{DfuProtocol}
 use Rattle.protocol.specs.declared.DfuProtocol.the-variants.{Dfu, Dfuse}
-use Rattle.session.specs.declared.Command.the-variants.{Erase, SetAddress, Block, Empty}
-use Rattle.session.specs.declared.Request.{Request}
-use Rattle.session.specs.declared.Request.the-variants.{GetStatus, ClearStatus, Command as Sends}
+use Rattle.wire.specs.declared.Command.the-variants.{Erase, SetAddress, Block, Empty}
+use Rattle.wire.specs.declared.Request.{Request}
+use Rattle.wire.specs.declared.Request.the-variants.{GetStatus, ClearStatus, Command as Sends}
 use Rattle.session.specs.declared.Session.{Session}
-use Rattle.session.specs.declared.Stage.the-variants.{Erasing, Ending}
-use Rattle.session.specs.declared.End.the-variants.{Stays}
-use Rattle.session.specs.declared.Error.the-variants.{BudgetSpent}
-use Rattle.session.specs.declared.Phase.the-variants.{Finished, Refused as Ended}
-use Rattle.session.specs.declared.start.DfuSansIo.{DfuSansIo}
-use Rattle.session.specs.declared.start.Started.{Started}
-use Rattle.session.specs.declared.start.Started.the-variants.{Session as Begun, Refused}
-use Rattle.session.specs.Machine.{Answer, reply, waited, wasReset, count as counts, mk, asksAt, saidAsk}
-use Rattle.session.specs.Download.{download}
-use Rattle.session.specs.Start.{beginOf, saidStart}
+use Rattle.work.specs.declared.Stage.the-variants.{Erasing, Ending}
+use Rattle.work.specs.declared.End.the-variants.{Stays}
+use Rattle.work.specs.declared.Error.the-variants.{BudgetSpent}
+use Rattle.machine.specs.declared.Phase.the-variants.{Finished, Refused as Ended}
+use Rattle.start.specs.declared.DfuSansIo.{DfuSansIo}
+use Rattle.start.specs.declared.Started.{Started}
+use Rattle.start.specs.declared.Started.the-variants.{Session as Begun, Refused}
+use Rattle.machine.specs.Machine.{asksAt, saidAsk}
+use Rattle.session.specs.Told.{Answer, reply, waited, wasReset, count as counts, mk}
+use Rattle.download.specs.Download.{download}
+use Rattle.start.specs.Start.{beginOf, saidStart}
 use Rattle.plan.specs.Plan.{sum}
 use Rattle.promises.specs.Samples.{deviceOf, shows}
 use Rattle.promises.specs.Run.{opened, after, transfers}

@@ -5,11 +5,11 @@ use mathlib.Core.Bool.{Bool}
 use mathlib.Core.List.{List, [], _∷_, _++_, map}
 use lib.Dec.{eqb}
 use Rattle.ground.specs.Pick.{pick}
-use Rattle.session.specs.declared.Command.{Command}
-use Rattle.session.specs.declared.Command.the-variants.{Erase, SetAddress, Block, Empty}
-use Rattle.session.specs.declared.Request.the-variants.{GetStatus, ClearStatus, Command as Commands}
+use Rattle.wire.specs.declared.Command.{Command}
+use Rattle.wire.specs.declared.Command.the-variants.{Erase, SetAddress, Block, Empty}
+use Rattle.wire.specs.declared.Request.the-variants.{GetStatus, ClearStatus, Command as Commands}
 use Rattle.protocol.specs.declared.DfuProtocol.{DfuProtocol}
-use Rattle.session.specs.declared.start.DfuSansIo.{DfuSansIo}
+use Rattle.start.specs.declared.DfuSansIo.{DfuSansIo}
 use Rattle.promises.specs.Run.{Event, sends, hears, inTime}
 use Rattle.plan.specs.Sent.{onWire, planOf}
 

@@ -1,8 +1,8 @@
 // The line of each transfer.
 use crate::print;
-use session::Ask;
-use session::Command;
-use session::Request;
+use machine::Ask;
+use wire::Command;
+use wire::Request;
 
 // The size of a page; 0 for one that isn't there.
 fn page(pages: &[u32], at: usize) -> u32 {

@@ -1,8 +1,8 @@
 // The refusals in words, by their numbers.
 use crate::print;
 use memory_layout::Error as Fault;
-use session::Error;
-use session::start::StartError;
+use start::StartError;
+use work::Error;
 
 fn refused(number: u64, words: &[u8]) {
     print::text(b"refused ");

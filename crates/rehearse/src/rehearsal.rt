@@ -8,11 +8,11 @@ use crate::warnings;
 use crate::words::Words;
 use functional_descriptor::FunctionalDescriptor;
 use ground::Version;
+use machine::Ask;
 use protocol::DfuProtocol;
-use session::Ask;
-use session::End;
-use session::start::DfuSansIo;
-use session::start::Started;
+use start::DfuSansIo;
+use start::Started;
+use work::End;
 
 // The device that the words describe.
 fn sans_io(words: Words) -> DfuSansIo {

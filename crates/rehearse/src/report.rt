@@ -1,7 +1,7 @@
 // What is told about a rehearsal.
 use crate::print;
 use budget::Suffices;
-use session::Setup;
+use work::Setup;
 
 // Where the firmware goes.
 pub fn target(dfuse: bool, address: u32, length: usize) {

@@ -1,11 +1,11 @@
 // A session that runs by itself, with a device that shows each awaited state at once.
 use crate::list;
 use crate::print;
-use session::Ask;
-use session::Command;
-use session::Request;
+use machine::Ask;
 use session::Session;
 use session::Step;
+use wire::Command;
+use wire::Request;
 
 // A session, what it says, and what it has asked for so far.
 pub struct Run {

@@ -2,8 +2,8 @@
 use crate::print;
 use crate::words::Words;
 use protocol::DfuProtocol;
-use session::Error;
-use session::Setup;
+use work::Error;
+use work::Setup;
 
 // An address that is not the string's, or that no one reads.
 pub fn address(words: Words, protocol: DfuProtocol) {

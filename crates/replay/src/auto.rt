@@ -2,9 +2,9 @@
 use crate::case;
 use crate::case::Case;
 use crate::told::Event;
-use session::Phase;
-use session::Request;
-use session::Wait;
+use machine::Phase;
+use wire::Request;
+use work::Wait;
 
 const MOST_CALLS: u64 = 1000000;
 

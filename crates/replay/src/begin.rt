@@ -7,7 +7,7 @@ use crate::transcript;
 use crate::words;
 use crate::words::Amount;
 use crate::words::Found;
-use session::start::Started;
+use start::Started;
 
 // `begin KIND ADDRESS OVERRIDE SIZE LENGTH BUDGET PAGECOUNT`
 pub fn begin(line: &[u8], out: &mut [u8], at: usize) -> usize {

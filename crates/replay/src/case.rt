@@ -3,7 +3,7 @@ use crate::row;
 use crate::told::Event;
 use crate::transcript;
 use crate::words;
-use session::Ask;
+use machine::Ask;
 use session::Session;
 use session::Step;
 

@@ -14,8 +14,8 @@ use crate::told::Word;
 use crate::transcript;
 use crate::words;
 use crate::words::Found;
-use session::start::StartError;
-use session::start::Started;
+use start::StartError;
+use start::Started;
 
 // The words before the pages.
 struct Plan {

@@ -6,9 +6,9 @@ use crate::words::Found;
 use functional_descriptor::FunctionalDescriptor;
 use ground::Version;
 use protocol::DfuProtocol;
-use session::start::DfuSansIo;
-use session::start::Override;
-use session::start::StartError;
+use start::DfuSansIo;
+use start::Override;
+use start::StartError;
 
 // Where a download goes.
 pub struct Target {

@@ -2,12 +2,12 @@
 use crate::firmware;
 use crate::output;
 use crate::output::Refusal;
-use session::Ask;
-use session::Command;
-use session::End;
-use session::Error;
-use session::Request;
+use machine::Ask;
 use session::Step;
+use wire::Command;
+use wire::Request;
+use work::End;
+use work::Error;
 
 // The words of what is said: a write's data is given, and the firmware's length.
 pub fn words(says: Ask, data: &[u8], length: usize, out: &mut [u8], at: usize) -> usize {

@@ -10,20 +10,23 @@ use lib.Dec.{eqb, ltb}
 use lib.ListN.{length}
 use borrow.Author.Tests.{ltb-false}
 use Rattle.ground.specs.Pick.{pick}
-use Rattle.session.specs.declared.Setup.{Setup}
-use Rattle.session.specs.declared.Progress.{Progress}
+use Rattle.work.specs.declared.Setup.{Setup}
+use Rattle.work.specs.declared.Progress.{Progress}
 use Rattle.session.specs.declared.Session.{Session}
 use Rattle.session.specs.declared.Step.{Step}
-use Rattle.session.specs.declared.Ask.{Ask}
-use Rattle.session.specs.declared.Ask.the-variants.{Refused as SaysNo}
+use Rattle.machine.specs.declared.Ask.{Ask}
+use Rattle.machine.specs.declared.Ask.the-variants.{Refused as SaysNo}
 use Rattle.session.specs.declared.Guard.the-variants.{Open, Shut}
-use Rattle.session.specs.declared.Wait.the-variants.{Pause, Poll}
-use Rattle.session.specs.declared.Error.the-variants.{NotAwaited, NotAsAtStart, Failed}
-use Rattle.session.specs.declared.Phase.{Phase}
-use Rattle.session.specs.declared.Phase.the-variants.{First, Clear, Second, Sent, Waiting, Resetting, Finished, Refused}
-use Rattle.session.proofs.Phase.{the-type}
-use Rattle.session.specs.Machine.{Answer, Work, count, reply, waited, wasReset, failed, mk, refuse, asksAt, go, stay, toldAt, told}
-use Rattle.session.specs.Download.{download, liveb, pausing, asAtStart, guardOf, called, filledBy, out, filled, callOf}
+use Rattle.work.specs.declared.Wait.the-variants.{Pause, Poll}
+use Rattle.work.specs.declared.Error.the-variants.{NotAwaited, NotAsAtStart, Failed}
+use Rattle.machine.specs.declared.Phase.{Phase}
+use Rattle.machine.specs.declared.Phase.the-variants.{First, Clear, Second, Sent, Waiting, Resetting, Finished, Refused}
+use Rattle.machine.proofs.Phase.{the-type}
+use Rattle.work.specs.Work.{Work}
+use Rattle.machine.specs.Machine.{refuse, asksAt, liveb, pausing}
+use Rattle.session.specs.Told.{Answer, count, reply, waited, wasReset, failed, mk, over, go, stay, toldAt, told}
+use Rattle.download.specs.Download.{download}
+use Rattle.session.specs.Calls.{asAtStart, guardOf, called, filledBy, out, filled, callOf}
 
 -- a kind of answer that a live phase doesn't await
 module _ (w : Work) (su : Setup) (pr : Progress) (l : ℕ) where
@@ -81,7 +84,7 @@ module _ (w : Work) (su : Setup) (pr : Progress) (l : ℕ) where
   no-failure (Finished e) h = absurd (let z : _≡_ {A = ℕ} 0 1 = cc in omega arith)
   no-failure (Refused e) h = absurd (let z : _≡_ {A = ℕ} 0 1 = cc in omega arith)
 
-  pub failure : (p : Phase) → liveb p ≡ true → pausing p ≡ false → go (refuse su pr l Failed) ≡ toldAt w su pr l p failed
+  pub failure : (p : Phase) → liveb p ≡ true → pausing p ≡ false → go (over su (refuse pr l Failed)) ≡ toldAt w su pr l p failed
   failure First h k = refl
   failure Clear h k = refl
   failure Second h k = refl

@@ -1,4 +1,2 @@
-pub mod Machine
-pub mod Download
-pub mod Wire
-pub mod Start
+pub mod Told
+pub mod Calls

@@ -5,7 +5,7 @@ use mathlib.Core.Path.{_≡_, ap, sym, _∙_}
 use mathlib.Core.Bool.{Bool, true, false}
 use mathlib.Core.List.{List}
 use Rattle.ground.specs.Pick.{pick}
-use Rattle.session.specs.Download.{Outcome, callOf}
+use Rattle.session.specs.Calls.{Outcome, callOf}
 use Rattle.session.specs.declared.Session.{Session}
 use Rattle.plan.specs.Answers.{ideal}
 use Rattle.speed.specs.Speed.{endb, askedOf, turnOf, ranOf}

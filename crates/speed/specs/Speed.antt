@@ -9,16 +9,16 @@ use Rattle.memory_layout.specs.declared.Error.{Error}
 use Rattle.memory_layout.specs.declared.MemoryLayout.{MemoryLayout}
 use Rattle.memory_layout.specs.declared.MemoryLayout.the-variants.{Pages, Refused}
 use Rattle.protocol.specs.declared.DfuProtocol.the-variants.{Dfuse}
-use Rattle.session.specs.Download.{Outcome, callOf}
-use Rattle.session.specs.Start.{newIo, beginOf}
-use Rattle.session.specs.declared.Phase.{Phase}
-use Rattle.session.specs.declared.Phase.the-variants.{First, Clear, Second, Sent, Waiting, Resetting, Finished, Refused as Ended}
+use Rattle.session.specs.Calls.{Outcome, callOf}
+use Rattle.start.specs.Start.{newIo, beginOf}
+use Rattle.machine.specs.declared.Phase.{Phase}
+use Rattle.machine.specs.declared.Phase.the-variants.{First, Clear, Second, Sent, Waiting, Resetting, Finished, Refused as Ended}
 use Rattle.session.specs.declared.Session.{Session}
-use Rattle.session.specs.declared.Ask.{Ask}
-use Rattle.session.specs.declared.Ask.the-variants.{Transfer, Wait as WaitFor, Reset as ResetBus, Finished as HasFinished, Refused as SaysNo}
-use Rattle.session.specs.declared.start.DfuSansIo.{DfuSansIo}
-use Rattle.session.specs.declared.start.Started.{Started}
-use Rattle.session.specs.declared.start.Started.the-variants.{Session as Begun, Refused as Unbegun}
+use Rattle.machine.specs.declared.Ask.{Ask}
+use Rattle.machine.specs.declared.Ask.the-variants.{Transfer, Wait as WaitFor, Reset as ResetBus, Finished as HasFinished, Refused as SaysNo}
+use Rattle.start.specs.declared.DfuSansIo.{DfuSansIo}
+use Rattle.start.specs.declared.Started.{Started}
+use Rattle.start.specs.declared.Started.the-variants.{Session as Begun, Refused as Unbegun}
 use Rattle.plan.specs.Answers.{ideal}
 
 -- 2^63 and document 01's number of the refusal

@@ -4,18 +4,18 @@ ghost use Rattle.memory_layout.specs.Layout.{layoutOf, saidError};
 ghost use mathlib.Core.List.{[], _∷_};
 ghost use lib.ListN.{length};
 ghost use Rattle.protocol.specs.declared.DfuProtocol.the-variants.{Dfuse};
-ghost use Rattle.session.specs.Start.{beginOf};
+ghost use Rattle.start.specs.Start.{beginOf};
 ghost use Rattle.speed.specs.Speed.{numberOf, told, toldOf, endb, askedOf, ranOf, deviceOf, sessionOf};
 use functional_descriptor::FunctionalDescriptor;
 use ground::Version;
+use machine::Ask;
+use machine::Phase;
 use memory_layout::Error;
 use memory_layout::MemoryLayout;
 use protocol::DfuProtocol;
-use session::Ask;
-use session::Phase;
 use session::Session;
-use session::start::DfuSansIo;
-use session::start::Started;
+use start::DfuSansIo;
+use start::Started;
 
 // What is added to a refusal's number: 2^63, which no number of pages reaches.
 const REFUSED: u64 = 9223372036854775808;

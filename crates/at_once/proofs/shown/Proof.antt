@@ -3,8 +3,8 @@ use Prim.Native.Nat.{ℕ}
 use mathlib.Core.Path.{ap, _∙_}
 use mathlib.Core.List.{[], _∷_}
 use borrow.Author.Needs.{needs}
-use Rattle.session.specs.Machine.{reply}
-use Rattle.session.specs.Download.{callOf}
+use Rattle.session.specs.Told.{reply}
+use Rattle.session.specs.Calls.{callOf}
 use Rattle.at_once.proofs.shown.Statement.{statement}
 use Rattle.at_once.proofs.shown.Tie as tie
 

@@ -2,9 +2,9 @@
 use Prim.Native.Nat.{ℕ}
 use mathlib.Core.Path.{ap, _∙_}
 use borrow.Author.Needs.{needs}
-use Rattle.session.specs.Machine.{count, waited, wasReset}
-use Rattle.session.specs.Download.{callOf}
-use Rattle.session.specs.declared.Phase.the-variants.{First, Clear, Second, Waiting, Resetting}
+use Rattle.session.specs.Told.{count, waited, wasReset}
+use Rattle.session.specs.Calls.{callOf}
+use Rattle.machine.specs.declared.Phase.the-variants.{First, Clear, Second, Waiting, Resetting}
 use Rattle.at_once.proofs.Answers.{at-phase, shared}
 use Rattle.at_once.proofs.told.Statement.{statement}
 use Rattle.at_once.proofs.told.Tie as tie

@@ -6,7 +6,7 @@ use native.Mathlib.Omega.{arith}
 use borrow.Author.Needs.{needs}
 use borrow.Author.Tests.{lt-ltb, le-ltb, ltb-false}
 use Rattle.memory_layout.specs.Layout.{maxPages}
-use Rattle.session.specs.Start.{overb}
+use Rattle.start.specs.Start.{overb}
 use Rattle.budget.specs.Enough.{enoughOf}
 use Rattle.budget.proofs.Fits.{commands-pos}
 use Rattle.budget.proofs.enough_for.Statement.{statement}

@@ -1,6 +1,6 @@
 -- `rt_session` meets its contract: what was begun is run.
 use mathlib.Core.Path.{ap, sym, _∙_}
-use Rattle.session.specs.declared.start.Started.{Started}
+use Rattle.start.specs.declared.Started.{Started}
 use Rattle.speed.specs.Speed.{runOf}
 use borrow.Author.Needs.{needs}
 use Rattle.speed.proofs.rt_session.Statement.{statement}

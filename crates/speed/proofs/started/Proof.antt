@@ -2,8 +2,8 @@
 use mathlib.Core.Path.{ap, _∙_}
 use lib.ListN.{length}
 use Rattle.protocol.specs.declared.DfuProtocol.the-variants.{Dfuse}
-use Rattle.session.specs.Start.{beginOf}
-use Rattle.session.specs.declared.start.DfuSansIo.{DfuSansIo}
+use Rattle.start.specs.Start.{beginOf}
+use Rattle.start.specs.declared.DfuSansIo.{DfuSansIo}
 use borrow.Author.Needs.{needs}
 use Rattle.speed.proofs.started.Statement.{statement}
 use Rattle.speed.proofs.started.Tie as tie

@@ -1,8 +1,8 @@
 -- `data` meets its contract: the lengths decide, and then what is asked.
 use borrow.Author.Tests.{eq-eqb, ne-eqb, lt-ltb, le-ltb}
 use mathlib.Core.Path.{sym, ap, _∙_}
-use Rattle.session.specs.declared.Ask.{Ask}
-use Rattle.session.specs.Download.{askData, dataOf}
+use Rattle.machine.specs.declared.Ask.{Ask}
+use Rattle.session.specs.Calls.{askData, dataOf}
 use borrow.Author.Needs.{needs}
 use Rattle.session.proofs.Session.data.Statement.{statement}
 use Rattle.session.proofs.Session.data.Tie as tie

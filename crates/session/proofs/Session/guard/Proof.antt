@@ -2,7 +2,7 @@
 use borrow.Author.Tests.{not-true, not-false}
 use mathlib.Core.Path.{ap}
 use Rattle.session.specs.declared.Guard.the-variants.{Shut}
-use Rattle.session.specs.Download.{guardOf}
+use Rattle.session.specs.Calls.{guardOf}
 use borrow.Author.Needs.{needs}
 use Rattle.session.proofs.Session.guard.Statement.{statement}
 use Rattle.session.proofs.Session.guard.Tie as tie

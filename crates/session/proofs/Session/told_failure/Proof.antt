@@ -1,9 +1,10 @@
 -- `told_failure` meets its contract: a law of the call for each way out.
 use mathlib.Core.Path.{refl, sym, ap, _∙_}
 use lib.ListN.{length}
-use Rattle.session.specs.Machine.{failed, go}
-use Rattle.session.specs.Download.{download}
+use Rattle.session.specs.Told.{failed, over, go}
+use Rattle.download.specs.Download.{download}
 use Rattle.session.proofs.Calls.{no-failure, failure, at-phase, live, through-open, through-shut}
+use Rattle.machine.specs.declared.Moved.{Moved}
 use borrow.Author.Needs.{needs}
 use Rattle.session.proofs.Session.told_failure.Statement.{statement}
 use Rattle.session.proofs.Session.told_failure.Tie as tie
@@ -54,7 +55,7 @@ returns-3 c =
     let g = sym (c .before .before .before .before .before .before .before .before .guard .ensures) ∙ c .before .before .before .before .enum-told .given .1 in
     let thence = through-open (length (a .firmware .now)) (length (a .command .now)) ps s failed g in
     c .step-to .ensures
-    ∙ ap go (c .before .refused .ensures)
+    ∙ ap (λ (m : Moved). go (over (s .setup) m)) (c .before .refused .ensures)
     ∙ failure (download ps) (s .setup) (s .progress) (s .left) (s .phase) (live s (length (a .firmware .now)) (length ps) (length (a .command .now)) g) (sym (c .before .before .before .is-pause .ensures) ∙ c .before .before .if1 .left)
     ∙ at-phase (download ps) s failed (s .phase) refl
     ∙ thence

@@ -1,9 +1,9 @@
 -- `told_reset` meets its contract: a law of the call for each way out.
 use mathlib.Core.Path.{refl, sym, _∙_}
 use lib.ListN.{length}
-use Rattle.session.specs.declared.Phase.the-variants.{Resetting}
-use Rattle.session.specs.Machine.{wasReset}
-use Rattle.session.specs.Download.{download}
+use Rattle.machine.specs.declared.Phase.the-variants.{Resetting}
+use Rattle.session.specs.Told.{wasReset}
+use Rattle.download.specs.Download.{download}
 use Rattle.session.proofs.Calls.{no-reset, at-phase, live, through-open, through-shut}
 use borrow.Author.Needs.{needs}
 use Rattle.session.proofs.Session.told_reset.Statement.{statement}

@@ -1,10 +1,11 @@
 -- `told_wait` meets its contract: a law of the call for each way out.
 use mathlib.Core.Path.{refl, sym, ap, _∙_}
 use lib.ListN.{length}
-use Rattle.session.specs.declared.Phase.the-variants.{Waiting}
-use Rattle.session.specs.Machine.{waited, go}
-use Rattle.session.specs.Download.{download}
+use Rattle.machine.specs.declared.Phase.the-variants.{Waiting}
+use Rattle.session.specs.Told.{waited, over, go}
+use Rattle.download.specs.Download.{download}
 use Rattle.session.proofs.Calls.{no-wait, at-phase, stays, live, through-open, through-shut}
+use Rattle.machine.specs.declared.Moved.{Moved}
 use borrow.Author.Needs.{needs}
 use Rattle.session.proofs.Session.told_wait.Statement.{statement}
 use Rattle.session.proofs.Session.told_wait.Tie as tie
@@ -72,7 +73,7 @@ returns-4 c =
     let ps = a .pages .now in
     let g = sym (c .before .before .before .before .before .before .before .before .before .before .before .before .guard .ensures) ∙ c .before .before .before .before .before .before .before .before .enum-told .given .1 in
     let thence = through-open (length (a .firmware .now)) (length (a .command .now)) ps s waited g in
-    c .step-to .ensures ∙ ap go (c .before .issued .ensures) ∙ at-phase (download ps) s waited _ (c .before .before .before .before .before .before .phase .given .1 ∙ ap Waiting (c .before .before .before .wait .given .1)) ∙ thence
+    c .step-to .ensures ∙ ap (λ (m : Moved). go (over (s .setup) m)) (c .before .issued .ensures) ∙ at-phase (download ps) s waited _ (c .before .before .before .before .before .before .phase .given .1 ∙ ap Waiting (c .before .before .before .wait .given .1)) ∙ thence
 
 pub told-wait-spec : {M : Type 1} → statement M
 told-wait-spec =

@@ -1,0 +1,2 @@
+pub mod Covering
+pub mod Wishes
