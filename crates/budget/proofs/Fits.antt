@@ -4,7 +4,7 @@ use native.Mathlib.Nat.{le-div-iff-mul-le, div-lt-iff-lt-mul}
 use native.Mathlib.Omega.{arith}
 use mathlib.Core.Bool.{Bool, true, false}
 use mathlib.Core.List.{List}
-use Rattle.plan.specs.Plan.{commands}
+use Rattle.papers.specs.Plan.{commands}
 
 -- there is a request always: the empty block
 pub commands-pos : (d : Bool) (n size : ℕ) (ps : List ℕ) → 0 < commands d n size ps

@@ -7,7 +7,7 @@ use Rattle.ground.specs.Pick.{pick}
 use Rattle.protocol.specs.declared.DfuProtocol.{DfuProtocol}
 use Rattle.start.specs.declared.DfuSansIo.{DfuSansIo}
 use Rattle.start.specs.Start.{dfuseb, overb, manyb}
-use Rattle.plan.specs.Plan.{commands}
+use Rattle.papers.specs.Plan.{commands}
 use Rattle.budget.specs.declared.Suffices.{Suffices}
 use Rattle.budget.specs.declared.Suffices.the-variants.{Budget, Never}
 
@@ -16,12 +16,12 @@ abbrev pub enoughFor : ℕ → ℕ → ℕ
 enoughFor requests k = 3 + requests * (k + 2)
 
 -- a budget is a 64-bit count
-abbrev pub counted : ℕ → Suffices
-counted n = pick (ltb n (2 ^ 64)) (Budget n) Never
+abbrev pub fitted : ℕ → Suffices
+fitted n = pick (ltb n (2 ^ 64)) (Budget n) Never
 
 -- none where start refuses the lengths: too long (1), too many pages (22), too many blocks (29)
 unfoldable pub enoughOf : DfuSansIo → DfuProtocol → ℕ → List ℕ → ℕ → Suffices
 enoughOf io p len pages k =
     pick (ltb 4294967295 len) Never
     (pick (overb (dfuseb p) (length pages)) Never
-    (pick (manyb (dfuseb p) len (io .descriptor .«transfer_size»)) Never (counted (enoughFor (commands (dfuseb p) len (io .descriptor .«transfer_size») pages) k))))
+    (pick (manyb (dfuseb p) len (io .descriptor .«transfer_size»)) Never (fitted (enoughFor (commands (dfuseb p) len (io .descriptor .«transfer_size») pages) k))))

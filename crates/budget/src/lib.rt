@@ -5,8 +5,8 @@ ghost use Prim.Native.Nat.{_<_, _≤_};
 ghost use lib.ListN.{length};
 ghost use Rattle.start.specs.Start.{dfuseb, overb};
 ghost use Rattle.memory_layout.specs.Layout.{maxPages};
-ghost use Rattle.plan.specs.Plan.{commands};
-ghost use Rattle.budget.specs.Enough.{enoughFor, counted, enoughOf};
+ghost use Rattle.papers.specs.Plan.{commands};
+ghost use Rattle.budget.specs.Enough.{enoughFor, fitted, enoughOf};
 use download::cover;
 use memory_layout::MAX_PAGES;
 use protocol::DfuProtocol;
@@ -35,7 +35,7 @@ fn requests(dfuse: bool, len: u32, size: u16, pages: &[u32]) -> u64
 // What suffices for so many requests and so many busy replies to each, if it is a 64-bit count.
 fn budget_for(requests: u64, busy: u64) -> Suffices
     requires { ⌜ 0 < requests ⌝ }
-    ensures { λ r. ⌜ r ≡ counted (enoughFor requests busy) ⌝ }
+    ensures { λ r. ⌜ r ≡ fitted (enoughFor requests busy) ⌝ }
 {
     if 18446744073709551613 < busy {
         return Suffices::Never;

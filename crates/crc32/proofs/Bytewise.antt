@@ -8,7 +8,8 @@ use native.Mathlib.Omega.{arith}
 use lib.Bits.{bitXor}
 use lib.ListN.{length, getD, drop, drop-of-length-le}
 use lib.Seq.{drop-cons}
-use Rattle.crc32.specs.Crc.{eight, crc, Table}
+use Rattle.papers.specs.Crc.{eight, crc}
+use Rattle.crc32.specs.Crc.{Table}
 use Rattle.crc32.proofs.Linear.{table-step}
 
 module _ (s : List ℕ) (i : ℕ) where

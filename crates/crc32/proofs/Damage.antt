@@ -5,7 +5,7 @@ use mathlib.Core.List.{List, [], _∷_, _++_}
 use native.Mathlib.Omega.{arith}
 use lib.Bits.{bitXor, xor-self, xor-zero-l, xor-zero-r, xor-comm, xor-lt}
 use Rattle.ground.specs.Bytes.{Bytes}
-use Rattle.crc32.specs.Crc.{polynomial, shifted, eight, crc}
+use Rattle.papers.specs.Crc.{polynomial, shifted, eight, crc}
 use Rattle.crc32.proofs.Xor.{xor-assoc, digit}
 use Rattle.crc32.proofs.Linear.{shifted-is, shifted-xor}
 

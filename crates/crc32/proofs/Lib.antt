@@ -3,4 +3,4 @@ pub mod Linear
 pub mod Rule
 pub mod Bytewise
 pub mod Damage
-pub mod Known
+pub mod Pinned

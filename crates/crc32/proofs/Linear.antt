@@ -7,7 +7,7 @@ use lib.Bits.{bitXor, differ, xor-zero-r, xor-shifted, xor-shr, xor-comm}
 use lib.Dec.{eqb}
 use lib.Pow.{pow-pos}
 use Rattle.ground.specs.Pick.{pick}
-use Rattle.crc32.specs.Crc.{polynomial, shifted, eight}
+use Rattle.papers.specs.Crc.{polynomial, shifted, eight}
 use Rattle.crc32.proofs.Xor.{xor-odd, xor-half, xor-four, digit}
 
 -- the polynomial as many times as a digit says

@@ -7,7 +7,8 @@ use native.Mathlib.Omega.{arith}
 use lib.Dec.{T, eqb, eqb→eq}
 use lib.ListN.{length, getD}
 use Rattle.ground.specs.Pick.{pick}
-use Rattle.crc32.specs.Crc.{eight, Table}
+use Rattle.papers.specs.Crc.{eight}
+use Rattle.crc32.specs.Crc.{Table}
 
 -- whether each word is what eight bits make of its place, counted from i
 abbrev pub ruled : ℕ → List ℕ → Bool

@@ -2,7 +2,8 @@
 ghost use mathlib.Core.Path.{_≡_};
 ghost use Prim.Native.Nat.{_%_};
 ghost use lib.Bits.{bitXor};
-ghost use Rattle.crc32.specs.Crc.{eight, crc, crcOf, Table};
+ghost use Rattle.papers.specs.Crc.{eight, crc, crcOf};
+ghost use Rattle.crc32.specs.Crc.{Table};
 
 // What the register 0 makes of each byte.
 const TABLE: [u32; 256] = [

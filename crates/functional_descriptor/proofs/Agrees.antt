@@ -11,7 +11,7 @@ use Rattle.ground.specs.Bytes.{littleEndian, field}
 use Rattle.functional_descriptor.specs.declared.FunctionalDescriptor.{FunctionalDescriptor}
 use Rattle.functional_descriptor.specs.declared.Descriptor.the-variants.{Read}
 use Rattle.functional_descriptor.specs.Descriptor.{flag, descriptorOf}
-use Rattle.functional_descriptor.specs.Dfu11.{Functional, weigh, bytesOf}
+use Rattle.papers.specs.Descriptor.{Functional, weigh, bytesOf}
 
 -- the table's fields under the Rust's names
 abbrev pub named : Functional → FunctionalDescriptor

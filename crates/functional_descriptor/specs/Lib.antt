@@ -1,2 +1,1 @@
 pub mod Descriptor
-pub mod Dfu11

@@ -12,7 +12,7 @@ use Rattle.get_status.specs.declared.GetStatusMessage.{GetStatusMessage}
 use Rattle.get_status.specs.declared.Reply.the-variants.{Read}
 use Rattle.get_status.specs.Names.{stateOf, stateByte, statusOf, settled}
 use Rattle.get_status.specs.Reply.{replyOf}
-use Rattle.get_status.specs.Dfu11.{StatusReply, bytesOf, DfuState, bStateOf, appIDLE, appDETACH, dfuIDLE, dfuDNLOAD-SYNC, dfuDNBUSY, dfuDNLOAD-IDLE, dfuMANIFEST-SYNC, dfuMANIFEST, dfuMANIFEST-WAIT-RESET, dfuUPLOAD-IDLE, dfuERROR}
+use Rattle.papers.specs.Status.{StatusReply, bytesOf, DfuState, bStateOf, appIDLE, appDETACH, dfuIDLE, dfuDNLOAD-SYNC, dfuDNBUSY, dfuDNLOAD-IDLE, dfuMANIFEST-SYNC, dfuMANIFEST, dfuMANIFEST-WAIT-RESET, dfuUPLOAD-IDLE, dfuERROR}
 
 -- the reply's fields under the Rust's names, 6 taken as 7 and 3 as 4
 abbrev pub named : StatusReply → GetStatusMessage

@@ -1,2 +1,3 @@
 pub mod Names
 pub mod Agrees
+pub mod Pinned

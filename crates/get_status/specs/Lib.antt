@@ -1,3 +1,2 @@
 pub mod Names
 pub mod Reply
-pub mod Dfu11

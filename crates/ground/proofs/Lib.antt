@@ -2,3 +2,4 @@ pub mod Tests
 pub mod Lists
 pub mod Numbers
 pub mod Prefix
+pub mod Pinned

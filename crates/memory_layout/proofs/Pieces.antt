@@ -9,8 +9,8 @@ use lib.ListN.{length, take, drop, getD, length-drop}
 use lib.Seq.{length-take-le, getD-drop}
 use borrow.Author.Tests.{eq-eqb, ne-eqb, lt-ltb, le-ltb}
 use Rattle.ground.proofs.Tests.{picked}
-use Rattle.memory_layout.specs.Number.{numberOf}
-use Rattle.memory_layout.specs.declared.number.Number.the-variants.{Value, Bad}
+use Rattle.number.specs.Number.{numberOf}
+use Rattle.number.specs.declared.Number.the-variants.{Value, Bad}
 use Rattle.memory_layout.specs.declared.Error.the-variants.{ParseErrorPageCount, ParseErrorPageSize, InvalidPrefix, PageTooLarge}
 use Rattle.memory_layout.specs.declared.Piece.the-variants.{Run, Fault}
 use Rattle.memory_layout.specs.Layout.{factorOf, scaled, starred}

@@ -1,4 +1,4 @@
--- How the reader goes through a text that is put together of parts: a number, a piece, all pieces. Assumes nothing.
+-- How the reader goes through a text that is put together of parts: a piece, all pieces. Assumes nothing.
 use Prim.Native.Nat.{ℕ, _+_, _-_, _*_, _<_, _≤_}
 use mathlib.Core.Path.{_≡_, refl, ap}
 use mathlib.Core.List.{List, [], _∷_, _++_}
@@ -8,22 +8,13 @@ use lib.Dec.{eqb}
 use lib.ListN.{length, replicate, length-append, length-replicate}
 use lib.Seq.{take-append-seam, getD-append-seam, drop-append-add}
 use borrow.Author.Tests.{eq-eqb, ne-eqb, le-ltb}
-use Rattle.memory_layout.specs.Number.{readOn, numberOf}
-use Rattle.memory_layout.specs.declared.number.Number.the-variants.{Value}
+use Rattle.ground.proofs.Lists.{Without}
+use Rattle.number.specs.Number.{numberOf}
+use Rattle.number.specs.declared.Number.the-variants.{Value}
 use Rattle.memory_layout.specs.declared.Piece.the-variants.{Run}
 use Rattle.memory_layout.specs.declared.MemoryLayout.the-variants.{Pages}
 use Rattle.memory_layout.specs.Layout.{maxPages, maxText, upTo, split, factorOf, starred, pieceOf, pieces, checked, sizes}
-use Rattle.memory_layout.proofs.Digits.{num-bare}
 use Rattle.memory_layout.proofs.Pieces.{fits}
-
--- a text without the byte x, and two of them put together
-abbrev pub Without : ℕ → List ℕ → Type 0
-Without x [] = Unit
-Without x (c ∷ cs) = (c ≡ x → ⊥) × Without x cs
-
-pub without-both : (x : ℕ) (s t : List ℕ) → Without x s → Without x t → Without x (s ++ t)
-without-both x [] t f g = g
-without-both x (c ∷ s) t f g = (f .0, without-both x s t (f .1) g)
 
 -- the bytes before the first x
 pub before : (x : ℕ) (s t : List ℕ) → Without x s → upTo x (s ++ (x ∷ t)) ≡ s
@@ -41,11 +32,6 @@ pub first : (p t : List ℕ) → Without 44 p → split (p ++ (44 ∷ t)) ≡ p 
 unfolding split
 first [] t f = refl
 first (c ∷ p) t f = simp (first p t (f .1), ne-eqb c 44 (f .0))
-
--- a number with no `+`
-pub unsigned : (b : ℕ) (s : List ℕ) → 0 < length s → Without 43 s → numberOf b s ≡ readOn b s 0
-unsigned b [] h f = absurd (omega arith)
-unsigned b (c ∷ s) h f = num-bare b (c ∷ s) (omega arith) (f .0)
 
 -- a piece: a count, a star, a size, a unit and a type
 pub piece : (count size : List ℕ) (unit type n v f at : ℕ) → Without 42 count → numberOf 10 count ≡ Value n → numberOf 10 size ≡ Value v

@@ -5,9 +5,9 @@ use lib.ListN.{length, take, drop, getD, replicate}
 use lib.Dec.{eqb, ltb}
 use Rattle.ground.specs.Pick.{pick}
 use Rattle.ground.specs.Said.{Said, says}
-use Rattle.memory_layout.specs.Number.{numberOf}
-use Rattle.memory_layout.specs.declared.number.Number.{Number}
-use Rattle.memory_layout.specs.declared.number.Number.the-variants.{Value, Bad}
+use Rattle.number.specs.Number.{numberOf}
+use Rattle.number.specs.declared.Number.{Number}
+use Rattle.number.specs.declared.Number.the-variants.{Value, Bad}
 use Rattle.memory_layout.specs.declared.Error.{Error}
 use Rattle.memory_layout.specs.declared.Error.the-variants.{InvalidPageFormat, ParseErrorPageCount, ParseErrorPageSize, InvalidPrefix, TextTooLong, PageTooLarge, TooManyPages}
 use Rattle.memory_layout.specs.declared.Piece.{Piece}

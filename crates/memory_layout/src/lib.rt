@@ -1,6 +1,4 @@
 // A memory layout's text, to page sizes in a lent store: memory_layout.rs.
-pub mod number;
-
 ghost use mathlib.Core.Path.{_≡_};
 ghost use Prim.Native.Nat.{_+_, _<_, _≤_, _^_, min};
 ghost use mathlib.Core.List.{_++_};

@@ -1,5 +1,5 @@
+pub mod Agree
 pub mod Pages
 pub mod Blocks
-pub mod Count
 pub mod Wire
 pub mod Unfilled

@@ -5,7 +5,7 @@ use mathlib.Core.List.{List, [], _∷_, _++_}
 use native.Mathlib.Omega.{arith}
 use lib.ListN.{length, take, drop}
 use Rattle.download.specs.Download.{covering}
-use Rattle.plan.specs.Plan.{sum}
+use Rattle.papers.specs.Plan.{sum}
 
 -- nothing is erased for a target of 0 bytes; otherwise the first page, and then those for what is left
 pub covering-zero : (ps : List ℕ) → covering 0 ps ≡ []

@@ -14,8 +14,8 @@ use Rattle.start.specs.declared.Override.{Override}
 use Rattle.wire.specs.Wire.{wireOf, filledFor, requestData}
 use Rattle.start.specs.Start.{beginOf}
 use Rattle.plan.specs.Sent.{carried, taken}
-use Rattle.plan.specs.Dfu11.{DFU_DNLOAD, DFU_GETSTATUS, DFU_CLRSTATUS}
-use Rattle.plan.specs.Dfuse.{fourBytes, eraseCommand, setAddressCommand}
+use Rattle.papers.specs.Requests.{DFU_DNLOAD, DFU_GETSTATUS, DFU_CLRSTATUS}
+use Rattle.papers.specs.Dfuse.{fourBytes, eraseCommand, setAddressCommand}
 
 pub status-agrees : taken (wireOf GetStatus) ≡ DFU_GETSTATUS
 status-agrees = refl

@@ -12,8 +12,8 @@ use Rattle.start.specs.declared.DfuSansIo.{DfuSansIo}
 use Rattle.start.specs.declared.Started.the-variants.{Session as Begun}
 use Rattle.wire.specs.Wire.{wireOf, filledFor, requestData}
 use Rattle.start.specs.Start.{dfuseb, targetOf, beginOf}
-use Rattle.plan.specs.Dfu11.{SetupPacket, packet}
-use Rattle.plan.specs.Plan.{Dnload, plan}
+use Rattle.papers.specs.Requests.{SetupPacket, packet}
+use Rattle.papers.specs.Plan.{Dnload, plan}
 
 -- our control transfers as setup packets: with the bytes that they carry, with the bytes that they take
 abbrev pub carried : Control → SetupPacket

@@ -7,7 +7,7 @@ use Rattle.protocol.specs.declared.DfuProtocol.{DfuProtocol}
 use Rattle.download.specs.Download.{download}
 use Rattle.session.specs.declared.Session.{Session}
 use Rattle.start.specs.declared.DfuSansIo.{DfuSansIo}
-use Rattle.plan.specs.Plan.{Dnload}
+use Rattle.papers.specs.Plan.{Dnload}
 use Rattle.promises.specs.Run.{World, opened, after, transfers, commanded, cleared, Over}
 use Rattle.promises.specs.Calls.{Call, calls, passed, AllPass}
 use Rattle.plan.specs.Sent.{onWire, planOf, Begins}

@@ -17,7 +17,7 @@ use Rattle.machine.specs.declared.Phase.the-variants.{First}
 use Rattle.work.specs.declared.Setup.{Setup}
 use Rattle.session.specs.declared.Session.{Session}
 use Rattle.start.specs.declared.DfuSansIo.{DfuSansIo}
-use Rattle.plan.proofs.Count.{plan-length}
+use Rattle.papers.proofs.Count.{plan-length}
 use Rattle.promises.specs.Run.{opened, after, transfers, cleared}
 use Rattle.plan.specs.Sent.{onWire, Begins}
 use Rattle.promises.specs.Fair.{heeded, Fair, Ready, requestsOf, bound}

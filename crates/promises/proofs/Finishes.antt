@@ -20,7 +20,7 @@ use Rattle.session.specs.declared.Session.{Session}
 use Rattle.work.specs.declared.Todo.{Todo}
 use Rattle.work.specs.declared.Todo.the-variants.{Send, End as Ends, Refuse}
 use Rattle.start.specs.declared.DfuSansIo.{DfuSansIo}
-use Rattle.plan.specs.Plan.{Dnload}
+use Rattle.papers.specs.Plan.{Dnload}
 use Rattle.promises.specs.Run.{Event, sends, opened, after, commanded, Over}
 use Rattle.plan.specs.Sent.{onWire, planOf, Begins}
 use Rattle.promises.proofs.Walk.{Claims, Holds, Wished, WaitingAt, Good, run-always, run-over, either-end}

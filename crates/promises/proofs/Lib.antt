@@ -1,4 +1,3 @@
-pub mod Pinned
 pub mod Starred
 pub mod Counted
 pub mod Walk

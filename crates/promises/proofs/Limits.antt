@@ -30,10 +30,10 @@ use Rattle.machine.specs.declared.Ask.the-variants.{Transfer, Wait as WaitFor, 
 use Rattle.start.specs.declared.DfuSansIo.{DfuSansIo}
 use Rattle.start.specs.declared.StartError.{StartError}
 use Rattle.start.specs.declared.StartError.the-variants.{OutOfCapabilities, TooManyPages, NoSpaceLeft as NoSpace, TooManyBlocks, BudgetSpent as NoBudget}
-use Rattle.plan.specs.Dfuse.{blockAddress}
-use Rattle.plan.specs.Plan.{numberOf}
+use Rattle.papers.specs.Dfuse.{blockAddress}
+use Rattle.papers.specs.Plan.{blockNumber}
 use Rattle.plan.specs.Sent.{Begins}
-use Rattle.plan.proofs.Blocks.{block-number, block-address}
+use Rattle.papers.proofs.Numbers.{block-number, block-address}
 use Rattle.promises.specs.Run.{Event, World, opened, tell, commanded}
 use Rattle.promises.specs.Calls.{Call, calls}
 use Rattle.promises.specs.Limits.{EndsBelow, AllBelow}
@@ -109,8 +109,8 @@ module _ (io : DfuSansIo) (p : DfuProtocol) (fw ps : List ℕ) (budget : ℕ) (s
   -- EVERY DFUSE BLOCK HAS A NUMBER OF ITS OWN, the empty one too, and is written where its bytes belong
   pub blocks-land : 0 < length fw → 0 < io .descriptor .«transfer_size» → Begins io p fw ps budget s → dfuseb p ≡ true
       → (i : ℕ) → i ≤ blockCount (length fw) (io .descriptor .«transfer_size»)
-      → (numberOf true i ≡ 2 + i)
-      × (blockAddress (targetOf p (io .«override_address»)) (io .descriptor .«transfer_size») (numberOf true i) ≡ targetOf p (io .«override_address») + i * io .descriptor .«transfer_size»)
+      → (blockNumber true i ≡ 2 + i)
+      × (blockAddress (targetOf p (io .«override_address»)) (io .descriptor .«transfer_size») (blockNumber true i) ≡ targetOf p (io .«override_address») + i * io .descriptor .«transfer_size»)
   blocks-land h k b d i n =
       let few : i ≤ 65533 = omega (arith, n, (begun-within io p fw ps budget s h k b) .numbered d) in
       (block-number i few, block-address (targetOf p (io .«override_address»)) (io .descriptor .«transfer_size») i few)

@@ -19,7 +19,7 @@ use Rattle.session.specs.declared.Session.{Session}
 use Rattle.start.specs.declared.DfuSansIo.{DfuSansIo}
 use Rattle.start.specs.declared.StartError.{StartError}
 use Rattle.start.specs.declared.Started.the-variants.{Session as Begun, Refused as Unbegun}
-use Rattle.plan.specs.Plan.{Dnload, erasing, several, blockOf, plan}
+use Rattle.papers.specs.Plan.{Dnload, erasing, several, blockOf, plan, leading, blocksFor}
 use Rattle.promises.specs.Run.{Event, sends, hears, opened, afterBy, inTime, transfers, commanded, cleared}
 use Rattle.plan.specs.Sent.{onWire, planOf}
 use Rattle.promises.specs.Whole.{opening, busyAfter, targetAfter, looks, Round, roundOf, rounds, requestOf, Listed}
@@ -96,7 +96,7 @@ ten = shows 2 ∷ shows 2 ∷ shows 2 ∷ shows 2 ∷ shows 2 ∷ shows 2 ∷ sh
 
 -- ONE FIXED ANSWER doesn't finish
 pub fixed-shut-out : Finishing fixed → ⊥
-unfolding beginOf begunOf afterBy heededBy FairBy cleared blockCount
+unfolding beginOf begunOf afterBy heededBy FairBy cleared blockCount blocksFor
 fixed-shut-out f =
     let six : 6 ≤ 6 = omega arith in
     let fair : FairBy 0 0 (fixed .told []) begunPlain ten = ((six, tt), ((six, tt), ((six, tt), ((six, tt), ((six, tt), ((six, tt), ((six, tt), ((six, tt), ((six, tt), ((six, tt), tt)))))))))) in
@@ -104,7 +104,7 @@ fixed-shut-out f =
 
 -- DOING NOTHING doesn't finish either
 pub idle-shut-out : Finishing idle → ⊥
-unfolding beginOf begunOf afterBy heededBy FairBy cleared blockCount
+unfolding beginOf begunOf afterBy heededBy FairBy cleared blockCount blocksFor
 idle-shut-out f =
     let six : 6 ≤ 6 = omega arith in
     let fair : FairBy 0 0 (idle .told []) begunPlain ten = ((six, tt), ((six, tt), ((six, tt), ((six, tt), ((six, tt), ((six, tt), ((six, tt), ((six, tt), ((six, tt), ((six, tt), tt)))))))))) in
@@ -112,7 +112,7 @@ idle-shut-out f =
 
 -- FINISHING AT THE FIRST CALL has not sent the plan
 pub hasty-shut-out : SendsThePlan hasty → ⊥
-unfolding beginOf begunOf afterBy commanded plan several blockCount
+unfolding beginOf begunOf afterBy commanded plan leading blocksFor several blockCount
 hasty-shut-out f =
     let e : [] ≡ planOf sample Dfu (7 ∷ []) [] = f sample Dfu (7 ∷ []) [] 100 begunPlain (waited ∷ []) (omega arith) (omega arith) refl tt in
     let n : _≡_ {A = ℕ} 0 2 = ap (λ (x : List Dnload). length x) e in
@@ -138,7 +138,7 @@ rounds-long t (r ∷ rs) =
     )
 
 pub blind-shut-out : ListsAll blind → ⊥
-unfolding beginOf begunOf afterBy told onFirst onSecond nextOf writeNext tookOf field littleEndian inTime plan several blockCount
+unfolding beginOf begunOf afterBy told onFirst onSecond nextOf writeNext tookOf field littleEndian inTime plan leading blocksFor several blockCount
 blind-shut-out f =
     let v : Listed sample Dfu (7 ∷ []) [] _ =
     f sample Dfu (7 ∷ []) [] 100 begunPlain (shows 2 ∷ shows 2 ∷ count 1 ∷ count 0 ∷ []) (omega arith) (omega arith) refl tt in
@@ -167,7 +167,7 @@ numbersOf l = map (λ (x : Dnload). x .setup .wValue) l
 
 -- THE FIRST NUMBER 3 isn't the plan's
 pub numbered-from-three-shut-out : SendsThePlan numberedFromThree → ⊥
-unfolding beginOf begunOf afterBy commanded told onFirst onSecond onPoll eraseNext writeNext nextOf tookOf field littleEndian bytesLow covering plan erasing several blockOf blockCount numbersOf
+unfolding beginOf begunOf afterBy commanded told onFirst onSecond onPoll eraseNext writeNext nextOf tookOf field littleEndian bytesLow covering plan leading blocksFor erasing several blockOf blockCount numbersOf
 numbered-from-three-shut-out f =
     let e =
     f sample (Dfuse 0) (7 ∷ []) (1 ∷ 1 ∷ []) 100 _ (dfuseAnswers lastAnswers) (omega arith) (omega arith) refl tt in
@@ -176,7 +176,7 @@ numbered-from-three-shut-out f =
 
 -- ONE PAGE MORE isn't the plan
 pub one-page-more-shut-out : SendsThePlan onePageMore → ⊥
-unfolding beginOf begunOf afterBy commanded told onFirst onSecond onPoll eraseNext writeNext nextOf tookOf field littleEndian bytesLow covering plan erasing several blockOf blockCount
+unfolding beginOf begunOf afterBy commanded told onFirst onSecond onPoll eraseNext writeNext nextOf tookOf field littleEndian bytesLow covering plan leading blocksFor erasing several blockOf blockCount
 one-page-more-shut-out f =
     let e =
     f sample (Dfuse 0) (7 ∷ []) (1 ∷ 1 ∷ []) 100 begunDfuse (dfuseAnswers (round 5 5 lastAnswers)) (omega arith) (omega arith) refl tt in
@@ -185,7 +185,7 @@ one-page-more-shut-out f =
 
 -- THE ADDRESS SET TWICE isn't either
 pub address-twice-shut-out : SendsThePlan addressTwice → ⊥
-unfolding beginOf begunOf afterBy commanded told onFirst onSecond onPoll eraseNext writeNext nextOf tookOf field littleEndian bytesLow covering plan erasing several blockOf blockCount
+unfolding beginOf begunOf afterBy commanded told onFirst onSecond onPoll eraseNext writeNext nextOf tookOf field littleEndian bytesLow covering plan leading blocksFor erasing several blockOf blockCount
 address-twice-shut-out f =
     let e =
     f sample (Dfuse 0) (7 ∷ []) (1 ∷ 1 ∷ []) 100 begunDfuse (dfuseAnswers (round 5 5 lastAnswers)) (omega arith) (omega arith) refl tt in

@@ -13,11 +13,12 @@ use Rattle.work.specs.Work.{blockCount}
 use Rattle.download.specs.Download.{covering}
 use Rattle.wire.specs.declared.Command.the-variants.{Erase, SetAddress, Empty}
 use Rattle.work.specs.declared.Setup.{Setup}
-use Rattle.plan.specs.Dfu11.{DFU_DNLOAD}
-use Rattle.plan.specs.Dfuse.{eraseCommand, setAddressCommand}
-use Rattle.plan.specs.Plan.{Dnload, dnload, erasing, several, numberOf, bytesOf, blockOf, plan}
+use Rattle.papers.specs.Requests.{DFU_DNLOAD}
+use Rattle.papers.specs.Dfuse.{eraseCommand, setAddressCommand}
+use Rattle.papers.specs.Plan.{Dnload, dnload, erasing, several, blockNumber, bytesOf, blockOf, plan, pagesFor}
+use Rattle.plan.proofs.Agree.{pages-agree, blocks-agree}
 use Rattle.work.proofs.Fills.{blocks-within}
-use Rattle.plan.proofs.Blocks.{block-length}
+use Rattle.papers.proofs.Numbers.{block-length}
 use Rattle.plan.specs.Sent.{onWire}
 use Rattle.plan.proofs.Wire.{erase-command, address-command}
 use Rattle.promises.proofs.Wanted.{erases, blockAt, blocksOf, prepared, wanted}
@@ -46,7 +47,7 @@ block-onWire : (fw : List ℕ) (su : Setup) (i : ℕ) → length fw ≡ su .leng
     → onWire fw (blockAt su i) ≡ blockOf (su .dfuse) (su .size) fw i
 unfolding blockAt blockOf
 block-onWire fw su i h k =
-    let n : ℕ = numberOf (su .dfuse) i in
+    let n : ℕ = blockNumber (su .dfuse) i in
     let f : ℕ = i * su .size in
     let m : ℕ = min (su .size) (su .length - f) in
     let inside : leb (f + m) (length fw) ≡ true = le-leb (f + m) (length fw) (omega arith) in
@@ -74,18 +75,19 @@ blocks-onWire fw su i (suc c) h k e =
     ∙ ap (λ (x : List Dnload). blockOf (su .dfuse) (su .size) fw i ∷ x) (blocks-onWire fw su (suc i) c h k (omega arith))
 
 prepared-onWire : (fw : List ℕ) (su : Setup) (ps : List ℕ) → length fw ≡ su .length
-    → map (onWire fw) (prepared su ps) ≡ pick (su .dfuse) (erasing (su .address) (covering (length fw) ps) ++ (dnload 0 (setAddressCommand (su .address)) ∷ [])) []
+    → map (onWire fw) (prepared su ps) ≡ pick (su .dfuse) (erasing (su .address) (pagesFor (length fw) ps) ++ (dnload 0 (setAddressCommand (su .address)) ∷ [])) []
 unfolding prepared
 prepared-onWire fw su ps h = by (su .dfuse)
   where
     by : (b : Bool)
         → map (onWire fw) (pick b (erases (su .address) (covering (su .length) ps) ++ (SetAddress (su .address) ∷ [])) [])
-        ≡ pick b (erasing (su .address) (covering (length fw) ps) ++ (dnload 0 (setAddressCommand (su .address)) ∷ [])) []
+        ≡ pick b (erasing (su .address) (pagesFor (length fw) ps) ++ (dnload 0 (setAddressCommand (su .address)) ∷ [])) []
     by true =
         map-append (onWire fw) (erases (su .address) (covering (su .length) ps)) (SetAddress (su .address) ∷ [])
         ∙ ap (λ (x : List Dnload). x ++ (onWire fw (SetAddress (su .address)) ∷ [])) (erases-onWire fw (su .address) (covering (su .length) ps))
         ∙ ap (λ (x : Dnload). erasing (su .address) (covering (su .length) ps) ++ (x ∷ [])) (address-onWire fw (su .address))
         ∙ ap (λ (n : ℕ). erasing (su .address) (covering n ps) ++ (dnload 0 (setAddressCommand (su .address)) ∷ [])) (sym h)
+        ∙ ap (λ (x : List ℕ). erasing (su .address) x ++ (dnload 0 (setAddressCommand (su .address)) ∷ [])) (sym (pages-agree (length fw) ps))
     by false = refl
 
 -- THE PLAN BY MEANING IS THE PAPERS' PLAN
@@ -93,12 +95,13 @@ pub wanted-plan : (fw : List ℕ) (su : Setup) (ps : List ℕ) → length fw ≡
     → map (onWire fw) (wanted su ps) ≡ plan (su .dfuse) (su .address) (su .size) fw ps
 unfolding wanted plan
 wanted-plan fw su ps h k =
-    map-append (onWire fw) (prepared su ps) (several (blockAt su) 0 (blocksOf su) ++ (Empty (numberOf (su .dfuse) (blocksOf su)) ∷ []))
-    ∙ ap (λ (x : List Dnload). x ++ map (onWire fw) (several (blockAt su) 0 (blocksOf su) ++ (Empty (numberOf (su .dfuse) (blocksOf su)) ∷ []))) (prepared-onWire fw su ps h)
+    map-append (onWire fw) (prepared su ps) (several (blockAt su) 0 (blocksOf su) ++ (Empty (blockNumber (su .dfuse) (blocksOf su)) ∷ []))
+    ∙ ap (λ (x : List Dnload). x ++ map (onWire fw) (several (blockAt su) 0 (blocksOf su) ++ (Empty (blockNumber (su .dfuse) (blocksOf su)) ∷ []))) (prepared-onWire fw su ps h)
     ∙ ap (λ (x : List Dnload). front ++ x)
-    (map-append (onWire fw) (several (blockAt su) 0 (blocksOf su)) (Empty (numberOf (su .dfuse) (blocksOf su)) ∷ [])
-    ∙ ap (λ (x : List Dnload). x ++ (dnload (numberOf (su .dfuse) (blocksOf su)) [] ∷ [])) (blocks-onWire fw su 0 (blocksOf su) h k (omega arith))
-    ∙ ap (λ (n : ℕ). several (blockOf (su .dfuse) (su .size) fw) 0 (blockCount n (su .size)) ++ (dnload (numberOf (su .dfuse) (blockCount n (su .size))) [] ∷ [])) (sym h))
+    (map-append (onWire fw) (several (blockAt su) 0 (blocksOf su)) (Empty (blockNumber (su .dfuse) (blocksOf su)) ∷ [])
+    ∙ ap (λ (x : List Dnload). x ++ (dnload (blockNumber (su .dfuse) (blocksOf su)) [] ∷ [])) (blocks-onWire fw su 0 (blocksOf su) h k (omega arith))
+    ∙ ap (λ (n : ℕ). several (blockOf (su .dfuse) (su .size) fw) 0 (blockCount n (su .size)) ++ (dnload (blockNumber (su .dfuse) (blockCount n (su .size))) [] ∷ [])) (sym h)
+    ∙ ap (λ (c : ℕ). several (blockOf (su .dfuse) (su .size) fw) 0 c ++ (dnload (blockNumber (su .dfuse) c) [] ∷ [])) (sym (blocks-agree (length fw) (su .size))))
   where
     front : List Dnload
-    front = pick (su .dfuse) (erasing (su .address) (covering (length fw) ps) ++ (dnload 0 (setAddressCommand (su .address)) ∷ [])) []
+    front = pick (su .dfuse) (erasing (su .address) (pagesFor (length fw) ps) ++ (dnload 0 (setAddressCommand (su .address)) ∷ [])) []

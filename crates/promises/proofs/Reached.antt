@@ -18,6 +18,7 @@ use Rattle.work.specs.declared.End.the-variants.{Stays}
 use Rattle.machine.specs.declared.Phase.the-variants.{First, Finished, Refused}
 use Rattle.session.specs.declared.Session.{Session}
 use Rattle.start.specs.declared.DfuSansIo.{DfuSansIo}
+use Rattle.papers.specs.Plan.{leading, blocksFor}
 use Rattle.promises.specs.Run.{opened, after, afterBy, transfers, cleared}
 use Rattle.plan.specs.Sent.{Begins}
 use Rattle.promises.specs.Samples.{deviceOf, shows}
@@ -127,7 +128,7 @@ reached-fair =
 
 -- EXACTLY THE BOUND, with one clear
 pub bound-reached : length (transfers ((after (download pages) (opened (begunWith 18)) answers) .past)) ≡ bound 2 1 (requestsOf counter (Dfuse 0) (7 ∷ []) pages)
-unfolding afterBy transfers told onFirst onSecond onPoll eraseNext writeNext nextOf tookOf field littleEndian covering blockCount
+unfolding afterBy transfers told onFirst onSecond onPoll eraseNext writeNext nextOf tookOf field littleEndian covering blockCount leading blocksFor
 bound-reached =
     let spent : length (transfers ((after (download pages) (opened (begunWith 18)) answers) .past)) ≡ 19 = refl in
     let most : 19 ≡ bound 2 1 (requestsOf counter (Dfuse 0) (7 ∷ []) pages) = refl in

@@ -22,7 +22,7 @@ use Rattle.work.specs.declared.Progress.{Progress}
 use Rattle.work.specs.declared.Setup.{Setup}
 use Rattle.work.specs.declared.Todo.{Todo}
 use Rattle.start.specs.declared.DfuSansIo.{DfuSansIo}
-use Rattle.plan.specs.Plan.{sum}
+use Rattle.papers.specs.Plan.{sum}
 use Rattle.plan.proofs.Pages.{covering-more, sum-covering}
 use Rattle.promises.specs.Fair.{Ready}
 use Rattle.promises.proofs.Wanted.{left, heads}

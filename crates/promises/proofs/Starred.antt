@@ -3,7 +3,7 @@ use mathlib.Core.Path.{_≡_, refl}
 use mathlib.Core.List.{map}
 use Rattle.ground.specs.Text.{codes}
 use Rattle.ground.specs.Bytes.{littleEndian, field, prefix}
-use Rattle.memory_layout.specs.Number.{readOn, numberOf}
+use Rattle.number.specs.Number.{readOn, numberOf}
 use Rattle.memory_layout.specs.Layout.{upTo, endOf, split, scaled, starred, pieceOf, pieces, checked, sizes}
 use Rattle.protocol.specs.Interface.{rsplit, addressOf, dfuseOf, interfaceOf}
 use Rattle.machine.specs.Machine.{onFirst, onSecond, onPoll}
@@ -11,7 +11,7 @@ use Rattle.session.specs.Told.{told}
 use Rattle.work.specs.Work.{blockCount}
 use Rattle.download.specs.Download.{eraseNext, writeNext, nextOf, tookOf}
 use Rattle.start.specs.Start.{begunOf, beginOf}
-use Rattle.plan.specs.Plan.{sum}
+use Rattle.papers.specs.Plan.{sum}
 use Rattle.promises.specs.Run.{afterBy, transfers}
 use Rattle.promises.specs.Starred.{cases, run, wanted}
 

@@ -22,7 +22,7 @@ use Rattle.work.specs.declared.Setup.{Setup}
 use Rattle.work.specs.declared.Progress.{Progress}
 use Rattle.work.specs.declared.Todo.{Todo}
 use Rattle.work.specs.declared.Todo.the-variants.{Send, End as Ends, Refuse}
-use Rattle.plan.specs.Plan.{several, numberOf}
+use Rattle.papers.specs.Plan.{several, blockNumber}
 use Rattle.plan.proofs.Pages.{covering-zero, covering-more}
 use Rattle.work.proofs.Fills.{blockCount-zero, blockCount-more, blockCount-pos, blockCount-next, blockCount-fill}
 
@@ -136,7 +136,7 @@ heads ps su pr h = headsAt (pr .stage) ps su pr h
 
 -- the plan by meaning: block i has a number, a place and a length
 unfoldable pub blockAt : Setup → ℕ → Command
-blockAt su i = Block (numberOf (su .dfuse) i) (i * su .size) (min (su .size) (su .length - i * su .size))
+blockAt su i = Block (blockNumber (su .dfuse) i) (i * su .size) (min (su .size) (su .length - i * su .size))
 
 abbrev pub blocksOf : Setup → ℕ
 blocksOf su = blockCount (su .length) (su .size)
@@ -145,30 +145,30 @@ unfoldable pub prepared : Setup → List ℕ → List Command
 prepared su ps = pick (su .dfuse) (erases (su .address) (covering (su .length) ps) ++ (SetAddress (su .address) ∷ [])) []
 
 unfoldable pub wanted : Setup → List ℕ → List Command
-wanted su ps = prepared su ps ++ (several (blockAt su) 0 (blocksOf su) ++ (Empty (numberOf (su .dfuse) (blocksOf su)) ∷ []))
+wanted su ps = prepared su ps ++ (several (blockAt su) 0 (blocksOf su) ++ (Empty (blockNumber (su .dfuse) (blocksOf su)) ∷ []))
 
 -- the number at a place with i blocks before it is block i's
-number-of : (su : Setup) (i place : ℕ) → blockCount place (su .size) ≡ i → numberAt su place ≡ numberOf (su .dfuse) i
+number-of : (su : Setup) (i place : ℕ) → blockCount place (su .size) ≡ i → numberAt su place ≡ blockNumber (su .dfuse) i
 number-of su i place q = ap (λ (n : ℕ). (pick (su .dfuse) 2 0 + n) % 65536) q
 
 -- the i-th of either direction
 unfoldable pub nth : (ℕ → ℕ → ℕ → Command) → Setup → ℕ → Command
-nth b su i = b (numberOf (su .dfuse) i) (i * su .size) (min (su .size) (su .length - i * su .size))
+nth b su i = b (blockNumber (su .dfuse) i) (i * su .size) (min (su .size) (su .length - i * su .size))
 
 pub blocks-several : (b : ℕ → ℕ → ℕ → Command) (z : ℕ → Command) (su : Setup) (c i place : ℕ) → 0 < su .size → blockCount (su .length - i * su .size) (su .size) ≡ c
-    → (0 < c → place ≡ i * su .size) → blockCount place (su .size) ≡ i → blocks b z su c place ≡ several (nth b su) i c ++ (z (numberOf (su .dfuse) (i + c)) ∷ [])
+    → (0 < c → place ≡ i * su .size) → blockCount place (su .size) ≡ i → blocks b z su c place ≡ several (nth b su) i c ++ (z (blockNumber (su .dfuse) (i + c)) ∷ [])
 unfolding blocks several nth
 blocks-several b z su zero i place h e p q =
-    let same : numberAt su place ≡ numberOf (su .dfuse) (i + 0) = number-of su i place q ∙ ap (numberOf (su .dfuse)) (omega arith) in
+    let same : numberAt su place ≡ blockNumber (su .dfuse) (i + 0) = number-of su i place q ∙ ap (blockNumber (su .dfuse)) (omega arith) in
     ap (λ (x : ℕ). z x ∷ []) same
 blocks-several b z su (suc c) i place h e p q =
     let at : place ≡ i * su .size = p (omega arith) in
-    let n : numberAt su place ≡ numberOf (su .dfuse) i = number-of su i place q in
+    let n : numberAt su place ≡ blockNumber (su .dfuse) i = number-of su i place q in
     ap (λ (x : ℕ). b x place (blockLength su place) ∷ blocks b z su c (place + blockLength su place)) n
-    ∙ ap (λ (x : ℕ). b (numberOf (su .dfuse) i) x (blockLength su x) ∷ blocks b z su c (place + blockLength su place)) at
+    ∙ ap (λ (x : ℕ). b (blockNumber (su .dfuse) i) x (blockLength su x) ∷ blocks b z su c (place + blockLength su place)) at
     ∙ ap (λ (x : List Command). nth b su i ∷ x)
     (blocks-several b z su c (suc i) (place + blockLength su place) h (blockCount-next (su .length) (su .size) i c h e) far full
-    ∙ ap (λ (x : ℕ). several (nth b su) (suc i) c ++ (z (numberOf (su .dfuse) x) ∷ [])) (omega arith))
+    ∙ ap (λ (x : ℕ). several (nth b su) (suc i) c ++ (z (blockNumber (su .dfuse) x) ∷ [])) (omega arith))
   where
     far : 0 < c → place + blockLength su place ≡ suc i * su .size
     far k =
@@ -183,21 +183,21 @@ blocks-several b z su (suc c) i place h e p q =
         ap (λ (x : ℕ). blockCount (x + blockLength su place) (su .size)) z ∙ blockCount-fill (su .size) i (blockLength su place) (omega arith) (omega arith)
 
 pub fresh-row : (b : ℕ → ℕ → ℕ → Command) (z : ℕ → Command) (su : Setup) → 0 < su .size
-    → row b z su 0 ≡ several (nth b su) 0 (blocksOf su) ++ (z (numberOf (su .dfuse) (blocksOf su)) ∷ [])
+    → row b z su 0 ≡ several (nth b su) 0 (blocksOf su) ++ (z (blockNumber (su .dfuse) (blocksOf su)) ∷ [])
 unfolding row
 fresh-row b z su h =
     ap (λ (x : ℕ). blocks b z su (blockCount x (su .size)) 0) (omega arith)
     ∙ blocks-several b z su (blocksOf su) 0 0 h (ap (λ (x : ℕ). blockCount x (su .size)) (omega arith)) (λ k. omega arith) (blockCount-zero (su .size) h)
-    ∙ ap (λ (x : ℕ). several (nth b su) 0 (blocksOf su) ++ (z (numberOf (su .dfuse) x) ∷ [])) (omega arith)
+    ∙ ap (λ (x : ℕ). several (nth b su) 0 (blocksOf su) ++ (z (blockNumber (su .dfuse) x) ∷ [])) (omega arith)
 
 several-same : (su : Setup) (i c : ℕ) → several (nth Block su) i c ≡ several (blockAt su) i c
 unfolding several nth blockAt
 several-same su i zero = refl
 several-same su i (suc c) = ap (λ (x : List Command). blockAt su i ∷ x) (several-same su (suc i) c)
 
-fresh-blocks : (su : Setup) → 0 < su .size → writeLeft su (fresh su) ≡ several (blockAt su) 0 (blocksOf su) ++ (Empty (numberOf (su .dfuse) (blocksOf su)) ∷ [])
+fresh-blocks : (su : Setup) → 0 < su .size → writeLeft su (fresh su) ≡ several (blockAt su) 0 (blocksOf su) ++ (Empty (blockNumber (su .dfuse) (blocksOf su)) ∷ [])
 unfolding writeLeft
-fresh-blocks su h = fresh-row Block Empty su h ∙ ap (λ (x : List Command). x ++ (Empty (numberOf (su .dfuse) (blocksOf su)) ∷ [])) (several-same su 0 (blocksOf su))
+fresh-blocks su h = fresh-row Block Empty su h ∙ ap (λ (x : List Command). x ++ (Empty (blockNumber (su .dfuse) (blocksOf su)) ∷ [])) (several-same su 0 (blocksOf su))
 
 -- WHAT IS WANTED AT THE START
 pub fresh-wanted : (ps : List ℕ) (su : Setup) → 0 < su .size → left ps su (fresh su) ≡ wanted su ps

@@ -99,8 +99,8 @@ module _ (tolerant : Bool) (all : List Command) where
         (append-more h _ e (v .c ∷ rest) (v .sofar));
   }
 
-abbrev told : List ℕ → Setup → List Command → Claims
-told ps su all = record {
+abbrev listing : List ℕ → Setup → List Command → Claims
+listing ps su all = record {
   atFirst = λ pr l h. (inTime h ≡ sends GetStatus ∷ []) × (left ps su pr ≡ all);
   atClear = λ pr l h. (st : ℕ) × (eqb st 10 ≡ true) × (inTime h ≡ sends GetStatus ∷ hears st ∷ sends ClearStatus ∷ []) × (left ps su pr ≡ all);
   atSecond = λ pr l h. Opening (su .tolerant) all h (sends GetStatus ∷ []) (left ps su pr);
@@ -116,7 +116,7 @@ told ps su all = record {
 module _ (ps : List ℕ) (su : Setup) (all : List Command) where
   -- a request is sent, and its wait begins
   begins-round : (c : Command) (k : ℕ) (h : List Event) (pr : Progress) (l : ℕ) → Sofar (su .tolerant) all (sends (Commands c) ∷ h) (sends (Commands c) ∷ []) (c ∷ left ps su pr)
-      → WaitingAt (download ps) su (told ps su all) (waitAfter su c k) pr l (sends (Commands c) ∷ h)
+      → WaitingAt (download ps) su (listing ps su all) (waitAfter su c k) pr l (sends (Commands c) ∷ h)
   unfolding looks
   begins-round (Erase a) k h pr l v = record { c = Erase a; n = 0; busy = refl; target = refl; sofar = v }
   begins-round (SetAddress a) k h pr l v = record { c = SetAddress a; n = 0; busy = refl; target = refl; sofar = v }
@@ -128,7 +128,7 @@ module _ (ps : List ℕ) (su : Setup) (all : List Command) where
       by false = refl
 
   wished : (pr : Progress) (l : ℕ) (h : List Event) (t : Todo) → Heads (download ps) (left ps su) su (left ps su pr) t → Sofar (su .tolerant) all h [] (left ps su pr)
-      → Wished (download ps) su (told ps su all) pr l h t
+      → Wished (download ps) su (listing ps su all) pr l h t
   wished pr l h (Send c then) e v =
       let on : Sofar (su .tolerant) all (sends (Commands c) ∷ h) (sends (Commands c) ∷ []) (c ∷ left ps su (tookOf su then c)) =
       subst (λ (x : List Command). Sofar (su .tolerant) all (sends (Commands c) ∷ h) (sends (Commands c) ∷ []) x) (sym e)
@@ -136,7 +136,7 @@ module _ (ps : List ℕ) (su : Setup) (all : List Command) where
       λ m z. (tt, λ k f. begins-round c k h (tookOf su then c) m on)
   wished pr l h (Ends x) e v =
       let all-done : Sofar (su .tolerant) all h [] [] = subst (λ (y : List Command). Sofar (su .tolerant) all h [] y) (sym e) v in
-      either-end (download ps) su (told ps su all) pr l h x all-done all-done
+      either-end (download ps) su (listing ps su all) pr l h x all-done all-done
   wished pr l h (Refuse x) e v = tt
 
   -- one more busy reply, or the target
@@ -159,8 +159,8 @@ module _ (ps : List ℕ) (su : Setup) (all : List Command) where
       round-over (su .tolerant) all _ (w .c) (w .n) rest
       (subst (λ (x : ℕ). Sofar (su .tolerant) all (hears (stateByte t) ∷ h) (sends (Commands (w .c)) ∷ (looks (busyAfter (w .c)) (w .n) ++ (sends GetStatus ∷ hears x ∷ []))) (w .c ∷ rest)) (w .target) (w .sofar))
 
-  first-told : (pr : Progress) (l : ℕ) (h : List Event) (st : ℕ) → (told ps su all) .atFirst pr (suc l) h
-      → pick (eqb st 10) ((told ps su all) .atClear pr l (sends ClearStatus ∷ hears st ∷ h)) ((told ps su all) .atSecond pr l (sends GetStatus ∷ hears st ∷ h))
+  first-told : (pr : Progress) (l : ℕ) (h : List Event) (st : ℕ) → (listing ps su all) .atFirst pr (suc l) h
+      → pick (eqb st 10) ((listing ps su all) .atClear pr l (sends ClearStatus ∷ hears st ∷ h)) ((listing ps su all) .atSecond pr l (sends GetStatus ∷ hears st ∷ h))
   unfolding inTime
   first-told pr l h st v =
       picked (λ (X : Type 0). X) (eqb st 10) _ _
@@ -173,7 +173,7 @@ module _ (ps : List ℕ) (su : Setup) (all : List Command) where
         list = v .1;
       })
 
-  clear-told : (pr : Progress) (l : ℕ) (h : List Event) → (told ps su all) .atClear pr (suc l) h → (told ps su all) .atSecond pr l (sends GetStatus ∷ h)
+  clear-told : (pr : Progress) (l : ℕ) (h : List Event) → (listing ps su all) .atClear pr (suc l) h → (listing ps su all) .atSecond pr l (sends GetStatus ∷ h)
   unfolding inTime
   clear-told pr l h (st, e, v, q) = record {
     st = st;
@@ -182,7 +182,7 @@ module _ (ps : List ℕ) (su : Setup) (all : List Command) where
     list = q;
   }
 
-  second-told : (pr : Progress) (l : ℕ) (h : List Event) → (told ps su all) .atSecond pr l h → (told ps su all) .atWish pr l (hears 2 ∷ h)
+  second-told : (pr : Progress) (l : ℕ) (h : List Event) → (listing ps su all) .atSecond pr l h → (listing ps su all) .atWish pr l (hears 2 ∷ h)
   unfolding inTime rounds
   second-told pr l h v = record {
     st = v .st;
@@ -194,7 +194,7 @@ module _ (ps : List ℕ) (su : Setup) (all : List Command) where
     list = v .list;
   }
 
-  holds : 0 < su .size → Holds (download ps) su (told ps su all)
+  holds : 0 < su .size → Holds (download ps) su (listing ps su all)
   holds k = record {
     first = first-told;
     clear = clear-told;
@@ -217,7 +217,7 @@ module _ (ps : List ℕ) (su : Setup) (all : List Command) where
     hear = λ l h st v. tt;
   }
 
-fresh-good : (ps : List ℕ) (su : Setup) (l : ℕ) → 0 < su .size → Good (download ps) su (told ps su (wanted su ps)) (opened (mk su (fresh su) l First))
+fresh-good : (ps : List ℕ) (su : Setup) (l : ℕ) → 0 < su .size → Good (download ps) su (listing ps su (wanted su ps)) (opened (mk su (fresh su) l First))
 unfolding inTime
 fresh-good ps su l k = record { setup = refl; holds = (refl, fresh-wanted ps su k) }
 
@@ -237,7 +237,7 @@ module _ (io : DfuSansIo) (p : DfuProtocol) (fw ps : List ℕ) (budget : ℕ) (s
       (sym e)
       (λ o.
       let v : Sofar (su .tolerant) (wanted su ps) ((after (download ps) (opened (mk su (fresh su) l First)) more) .past) [] [] =
-      (run-over (download ps) su (told ps su (wanted su ps)) (holds ps su (wanted su ps) k) (opened (mk su (fresh su) l First)) more (fresh-good ps su l k) o) .2 in
+      (run-over (download ps) su (listing ps su (wanted su ps)) (holds ps su (wanted su ps) k) (opened (mk su (fresh su) l First)) more (fresh-good ps su l k) o) .2 in
       let q : map requestOf (v .rs) ≡ wanted su ps = sym (append-nil (map requestOf (v .rs))) ∙ v .list in
       record {
         shown = v .st;

@@ -25,7 +25,7 @@ use Rattle.session.specs.declared.Step.{Step}
 use Rattle.machine.specs.declared.Ask.{Ask}
 use Rattle.machine.specs.declared.Ask.the-variants.{Transfer, Wait as WaitFor, Reset as ResetBus, Finished as HasFinished, Refused as SaysNo}
 use Rattle.start.specs.declared.DfuSansIo.{DfuSansIo}
-use Rattle.plan.specs.Plan.{sum, commands}
+use Rattle.papers.specs.Plan.{sum, commands}
 use Rattle.promises.specs.Run.{Taken}
 
 -- whether an answer is of the kind that is awaited; a failure is, but in a wait

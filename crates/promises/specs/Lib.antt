@@ -1,4 +1,3 @@
-pub mod Pins
 pub mod Run
 pub mod Calls
 pub mod Whole

@@ -31,7 +31,7 @@ use Rattle.start.specs.declared.DfuSansIo.{DfuSansIo}
 use Rattle.start.specs.declared.StartError.the-variants.{NoSpaceLeft}
 use Rattle.start.specs.declared.Started.{Started}
 use Rattle.start.specs.declared.Started.the-variants.{Session as Begun, Refused as Unbegun}
-use Rattle.plan.specs.Plan.{Dnload}
+use Rattle.papers.specs.Plan.{Dnload}
 use Rattle.promises.specs.Run.{opened, afterBy, transfers, commanded, cleared, Over}
 use Rattle.plan.specs.Sent.{onWire, planOf}
 use Rattle.promises.specs.Whole.{Listed}

@@ -25,7 +25,7 @@ use Rattle.machine.specs.Machine.{asksAt, saidAsk}
 use Rattle.session.specs.Told.{Answer, reply, waited, wasReset, count as counts, mk}
 use Rattle.download.specs.Download.{download}
 use Rattle.start.specs.Start.{beginOf, saidStart}
-use Rattle.plan.specs.Plan.{sum}
+use Rattle.papers.specs.Plan.{sum}
 use Rattle.promises.specs.Samples.{deviceOf, shows}
 use Rattle.promises.specs.Run.{opened, after, transfers}
 
@@ -105,8 +105,8 @@ abbrev pub tolerant : Setting
 tolerant = record { protocol = Dfu; size = 8; tolerant = true; detach = false; length = 4; pages = []; budget = 64 }
 
 -- document 01's whole case: the first case's 12 pages, a device that replies each awaited state at once
-abbrev pub whole : ℕ → Setting
-whole b =
+abbrev pub wholeCase : ℕ → Setting
+wholeCase b =
     at 0x08000000 4100
     (16384 ∷ 16384 ∷ 16384 ∷ 16384 ∷ 65536 ∷ 131072 ∷ 131072 ∷ 131072 ∷ 131072 ∷ 131072 ∷ 131072 ∷ 131072 ∷ [])
     b
@@ -159,8 +159,8 @@ cases =
     ∷ sessionRun (dfuse 8 524280 64) [] (unbegun (says 29 []))
     ∷ sessionRun (plain 8 10 64) (failing 10 ∷ counts 0 ∷ shows 2 ∷ counts 8 ∷ waited ∷ failing 5 ∷ [])
     (runs (GetStatus ∷ ClearStatus ∷ GetStatus ∷ Sends (Block 0 0 8) ∷ GetStatus ∷ []) (says 27 (3 ∷ [])))
-    ∷ sessionRun (whole 14) wholeAnswers (runs (wholeTransfers (GetStatus ∷ [])) (says 0 []))
-    ∷ sessionRun (whole 13) wholeAnswers (runs (wholeTransfers []) (says 23 []))
+    ∷ sessionRun (wholeCase 14) wholeAnswers (runs (wholeTransfers (GetStatus ∷ [])) (says 0 []))
+    ∷ sessionRun (wholeCase 13) wholeAnswers (runs (wholeTransfers []) (says 23 []))
     ∷ sessionEnd tolerant (idle (write 4 5 (write 0 2 [])))
     (ends (GetStatus ∷ GetStatus ∷ Sends (Block 0 0 4) ∷ GetStatus ∷ Sends (Empty 1) ∷ GetStatus ∷ [])
     (mk (record { dfuse = false; address = 0; length = 4; pages = 0; size = 8; tolerant = true; detach = false })

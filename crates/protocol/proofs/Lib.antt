@@ -1,3 +1,4 @@
 pub mod Cuts
 pub mod Strings
 pub mod Published
+pub mod Pinned

@@ -11,17 +11,18 @@ use lib.ListN.{length, drop, length-append, length-replicate}
 use lib.Seq.{append-snoc}
 use borrow.Author.Tests.{lt-ltb, le-ltb, le-leb, lt-leb, ne-eqb}
 use Rattle.ground.specs.Bytes.{prefix}
+use Rattle.ground.proofs.Lists.{Without, without-both}
 use Rattle.ground.proofs.Tests.{lt-or-ge}
-use Rattle.memory_layout.specs.Number.{digitOf, readOn, numberOf}
+use Rattle.number.specs.Number.{digitOf, readOn, numberOf}
+use Rattle.number.specs.declared.Number.the-variants.{Value}
+use Rattle.number.proofs.Reading.{go-on, unsigned}
 use Rattle.memory_layout.specs.Layout.{maxPages, maxText, split, factorOf, pieceOf}
-use Rattle.memory_layout.specs.declared.number.Number.the-variants.{Value}
 use Rattle.memory_layout.specs.declared.Piece.the-variants.{Run}
-use Rattle.memory_layout.proofs.Digits.{go-on}
-use Rattle.memory_layout.proofs.Printed.{Without, without-both, alone, first, unsigned, piece, Announces, nothing, more, accepts}
+use Rattle.memory_layout.proofs.Printed.{alone, first, piece, Announces, nothing, more, accepts}
 use Rattle.protocol.specs.declared.DfuProtocol.the-variants.{Dfuse}
 use Rattle.protocol.specs.declared.Interface.the-variants.{Read}
 use Rattle.protocol.specs.Interface.{whole, cut, rsplit, addressOf, done, dfuseOf, interfaceOf}
-use Rattle.protocol.specs.Um0424.{
+use Rattle.papers.specs.Um0424.{
   either,
   glyph,
   digits,

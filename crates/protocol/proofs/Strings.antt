@@ -6,7 +6,7 @@ use mathlib.Core.Bool.{true, false}
 use lib.ListN.{length, take, drop}
 use Rattle.ground.specs.Bytes.{prefix}
 use Rattle.ground.proofs.Lists.{onwards}
-use Rattle.memory_layout.specs.Number.{numberOf}
+use Rattle.number.specs.Number.{numberOf}
 use Rattle.memory_layout.specs.Layout as layout
 use Rattle.memory_layout.specs.declared.Error.{Error as LayoutFault}
 use Rattle.memory_layout.specs.declared.MemoryLayout.{MemoryLayout}
@@ -16,7 +16,7 @@ use Rattle.protocol.specs.declared.Error.the-variants.{InvalidInterfaceS
 use Rattle.protocol.specs.declared.Interface.the-variants.{Read, Refused}
 use Rattle.protocol.specs.declared.Slash.the-variants.{At as SlashAt, Nowhere}
 use Rattle.protocol.specs.declared.Address.the-variants.{At, NoSlash, Bad}
-use Rattle.protocol.specs.Interface.{rsplit, placeOf, valueOf, addressOf, answered, done, settled, dfuseOf}
+use Rattle.protocol.specs.Interface.{rsplit, placeOf, valueOf, addressOf, answered, done, leaves, dfuseOf}
 use Rattle.protocol.proofs.Cuts.{at, nowhere}
 
 -- the text after a slash, as the code has it
@@ -43,10 +43,10 @@ unfolding dfuseOf
 no-layout s store e = rw (nowhere s e)
 
 pub with-layout : (s store : List ℕ) (i : ℕ) → placeOf (rsplit s) ≡ SlashAt i
-    → dfuseOf (rsplit s) store ≡ settled (answered (layout.checked (length store) (after s i)) (addressOf (rsplit (take i s)))) (after s i) store
+    → dfuseOf (rsplit s) store ≡ leaves (answered (layout.checked (length store) (after s i)) (addressOf (rsplit (take i s)))) (after s i) store
 unfolding dfuseOf
 with-layout s store i e =
-    rw (at s i e .1) (ap (λ (t : List ℕ). settled (answered (layout.checked (length store) t) (addressOf (rsplit (take i s)))) t store) (sym (onwards (i + 1) s)))
+    rw (at s i e .1) (ap (λ (t : List ℕ). leaves (answered (layout.checked (length store) t) (addressOf (rsplit (take i s)))) t store) (sym (onwards (i + 1) s)))
 
 -- a layout that was read, and what stands in the store then
 module _ (r : MemoryLayout) (text before now : List ℕ) (e : layout.done r now ≡ layout.layoutOf text before) where
@@ -58,17 +58,17 @@ module _ (r : MemoryLayout) (text before now : List ℕ) (e : layout.done r now 
   unfolding layout.layoutOf
   holds = ap (λ (d : layout.Done). d .store) e
 
-  pub stored : (n a : ℕ) → r ≡ Pages n → done (Read (Dfuse a) n) now ≡ settled (answered (layout.checked (length before) text) (At a)) text before
+  pub stored : (n a : ℕ) → r ≡ Pages n → done (Read (Dfuse a) n) now ≡ leaves (answered (layout.checked (length before) text) (At a)) text before
   stored n a p = let c : layout.checked (length before) text ≡ Pages n = sym read-as ∙ p in rw c (ap (done (Read (Dfuse a) n)) (holds ∙ rw c))
 
-  pub kept : (f : LayoutFault) (a : ℕ) → r ≡ RefusedLayout f → done (Refused (LayoutError f)) now ≡ settled (answered (layout.checked (length before) text) (At a)) text before
+  pub kept : (f : LayoutFault) (a : ℕ) → r ≡ RefusedLayout f → done (Refused (LayoutError f)) now ≡ leaves (answered (layout.checked (length before) text) (At a)) text before
   kept f a p = let c : layout.checked (length before) text ≡ RefusedLayout f = sym read-as ∙ p in rw c (ap (done (Refused (LayoutError f))) (holds ∙ rw c))
 
 -- a refusal settles with the store as it was
-pub refuses : (l : MemoryLayout) (text before : List ℕ) → done (answered l NoSlash) before ≡ settled (answered l NoSlash) text before
+pub refuses : (l : MemoryLayout) (text before : List ℕ) → done (answered l NoSlash) before ≡ leaves (answered l NoSlash) text before
 refuses (Pages n) text before = refl
 refuses (RefusedLayout f) text before = refl
 
-pub refuses-bad : (l : MemoryLayout) (text before : List ℕ) → done (answered l Bad) before ≡ settled (answered l Bad) text before
+pub refuses-bad : (l : MemoryLayout) (text before : List ℕ) → done (answered l Bad) before ≡ leaves (answered l Bad) text before
 refuses-bad (Pages n) text before = refl
 refuses-bad (RefusedLayout f) text before = refl

@@ -7,10 +7,10 @@ use Rattle.ground.specs.Pick.{pick}
 use Rattle.ground.specs.Said.{Said, says}
 use Rattle.ground.specs.Bytes.{prefix}
 use Rattle.ground.specs.declared.Version.{Version}
-use Rattle.memory_layout.specs.Number.{numberOf}
+use Rattle.number.specs.Number.{numberOf}
+use Rattle.number.specs.declared.Number.{Number}
+use Rattle.number.specs.declared.Number.the-variants.{Value, Bad as BadNumber}
 use Rattle.memory_layout.specs.Layout.{maxText, checked, storedBy, saidError}
-use Rattle.memory_layout.specs.declared.number.Number.{Number}
-use Rattle.memory_layout.specs.declared.number.Number.the-variants.{Value, Bad as BadNumber}
 use Rattle.memory_layout.specs.declared.MemoryLayout.{MemoryLayout}
 use Rattle.memory_layout.specs.declared.MemoryLayout.the-variants.{Pages, Refused as RefusedLayout}
 use Rattle.protocol.specs.declared.DfuProtocol.{DfuProtocol}
@@ -72,14 +72,14 @@ abbrev pub done : Interface → List ℕ → Done
 done r store = record { answer = r; store = store }
 
 -- pages are stored on acceptance, and nothing on a refusal
-abbrev pub settled : Interface → List ℕ → List ℕ → Done
-settled (Read p n) layout store = done (Read p n) (storedBy (Pages n) layout store)
-settled (Refused e) layout store = done (Refused e) store
+abbrev pub leaves : Interface → List ℕ → List ℕ → Done
+leaves (Read p n) layout store = done (Read p n) (storedBy (Pages n) layout store)
+leaves (Refused e) layout store = done (Refused e) store
 
 -- the text after the last slash is the layout; no slash is 8
 unfoldable pub dfuseOf : Cut → List ℕ → Done
 dfuseOf whole store = done (Refused InvalidInterfaceString) store
-dfuseOf (cut rest layout) store = settled (answered (checked (length store) layout) (addressOf (rsplit rest))) layout store
+dfuseOf (cut rest layout) store = leaves (answered (checked (length store) layout) (addressOf (rsplit rest))) layout store
 
 -- (1, 0x10) is plain DFU, the string unread; (1, 0x1a) is DfuSe, a string over 1,024 bytes being 20; others are 7
 unfoldable pub interfaceOf : List ℕ → Version → List ℕ → Done

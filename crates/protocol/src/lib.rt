@@ -1,13 +1,10 @@
 // The protocol that a version and an interface string announce, and the detach request: DfuProtocol and detach of lib.rs.
 ghost use mathlib.Core.Path.{_≡_};
-ghost use lib.ListN.{take, drop};
-ghost use Rattle.memory_layout.specs.Layout.{checked};
-ghost use Rattle.protocol.specs.Interface.{placeOf, rsplit, addressOf, answered, done, dfuseOf, interfaceOf, refusedBy, detachRequest};
+ghost use Rattle.protocol.specs.Interface.{placeOf, rsplit, addressOf, done, dfuseOf, interfaceOf, refusedBy, detachRequest};
 use ground::Version;
 use memory_layout::MAX_TEXT;
 use memory_layout::MemoryLayout;
-use memory_layout::number;
-use memory_layout::number::Number;
+use number::Number;
 
 // The protocol in use. DfuSe's pages stand in the store that was lent for them.
 pub enum DfuProtocol {

@@ -1,7 +1,6 @@
 // The words that the program is started with.
 use crate::print;
-use memory_layout::number;
-use memory_layout::number::Number;
+use number::Number;
 
 // What the words ask for.
 pub struct Words {

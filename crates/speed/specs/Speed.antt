@@ -26,21 +26,21 @@ abbrev pub refusalOf : Error → ℕ
 refusalOf e = 9223372036854775808 + saidError e .number
 
 -- how many pages, or the refusal
-abbrev pub numberOf : MemoryLayout → ℕ
-numberOf (Pages n) = n
-numberOf (Refused e) = refusalOf e
+abbrev pub layoutNumber : MemoryLayout → ℕ
+layoutNumber (Pages n) = n
+layoutNumber (Refused e) = refusalOf e
 
 -- a number, and the store after the call
-pub record Told : Type 0 where
+pub record Answered : Type 0 where
   pub number : ℕ
   pub store : List ℕ
 
-abbrev pub told : ℕ → List ℕ → Told
-told n store = record { number = n; store = store }
+abbrev pub answered : ℕ → List ℕ → Answered
+answered n store = record { number = n; store = store }
 
 -- what a layout's reading comes to
-abbrev pub toldOf : Done → Told
-toldOf d = told (numberOf (d .answer)) (d .store)
+abbrev pub answeredOf : Done → Answered
+answeredOf d = answered (layoutNumber (d .answer)) (d .store)
 
 -- whether a finish or a refusal was said
 abbrev pub endb : Ask → Bool

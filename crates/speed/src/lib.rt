@@ -5,7 +5,7 @@ ghost use mathlib.Core.List.{[], _∷_};
 ghost use lib.ListN.{length};
 ghost use Rattle.protocol.specs.declared.DfuProtocol.the-variants.{Dfuse};
 ghost use Rattle.start.specs.Start.{beginOf};
-ghost use Rattle.speed.specs.Speed.{numberOf, told, toldOf, endb, askedOf, ranOf, deviceOf, sessionOf};
+ghost use Rattle.speed.specs.Speed.{layoutNumber, answered, answeredOf, endb, askedOf, ranOf, deviceOf, sessionOf};
 use functional_descriptor::FunctionalDescriptor;
 use ground::Version;
 use machine::Ask;
@@ -40,7 +40,7 @@ fn refusal(error: Error) -> u8
 
 // How many pages, or a refusal.
 fn number(layout: MemoryLayout) -> u64
-    ensures { λ r. ⌜ r ≡ numberOf layout ⌝ }
+    ensures { λ r. ⌜ r ≡ layoutNumber layout ⌝ }
 {
     match layout {
         MemoryLayout::Pages(n) => n as u64,
@@ -51,7 +51,7 @@ fn number(layout: MemoryLayout) -> u64
 // Reads a layout's text into a store: how many pages it has, or 2^63 plus the number of the refusal.
 #[no_mangle]
 pub extern "C" fn rt_layout(text: &[u8], store: &mut [u32]) -> u64
-    ensures { λ r. ⌜ told r (now (store .exit)) ≡ toldOf (layoutOf (now (text .entry)) (now (store .entry))) ⌝ }
+    ensures { λ r. ⌜ answered r (now (store .exit)) ≡ answeredOf (layoutOf (now (text .entry)) (now (store .entry))) ⌝ }
 {
     let layout = MemoryLayout::try_from(text, store);
     number(layout)

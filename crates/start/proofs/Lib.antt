@@ -1,1 +1,2 @@
 pub mod Paid
+pub mod Pinned

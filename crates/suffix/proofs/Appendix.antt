@@ -14,11 +14,11 @@ use Rattle.ground.specs.Bytes.{littleEndian, field, prefix, Bytes}
 use Rattle.ground.proofs.Numbers.{bytes-drop}
 use Rattle.ground.proofs.Prefix.{starts}
 use Rattle.ground.proofs.Tests.{picked}
-use Rattle.crc32.specs.Crc.{crcOf}
+use Rattle.papers.specs.Crc.{crcOf}
 use Rattle.suffix.specs.declared.Identities.{Identities}
 use Rattle.suffix.specs.declared.Suffix.{Suffix}
 use Rattle.suffix.specs.declared.Suffix.the-variants.{FileTooShort, NoSignature, WrongLength, WrongCrc, Read}
-use Rattle.suffix.specs.Dfu11.{Ids, four, opening, dwCRC, fileOf}
+use Rattle.papers.specs.Suffix.{Ids, four, opening, dwCRC, fileOf}
 use Rattle.suffix.specs.Suffix.{lastOf, identitiesOf, lastRead, suffixOf, firmwareOf}
 use Rattle.suffix.proofs.Tested.{read-long, part-is}
 

@@ -9,7 +9,7 @@ use lib.Seq.{take-all, take-append-le, take-append-add, drop-append-le, drop-app
 use Rattle.ground.specs.Bytes.{littleEndian, field, Bytes}
 use Rattle.ground.proofs.Numbers.{bytes-take, bytes-drop}
 use Rattle.ground.proofs.Tests.{lt-or-ge}
-use Rattle.crc32.specs.Crc.{crcOf}
+use Rattle.papers.specs.Crc.{crcOf}
 use Rattle.crc32.proofs.Damage.{byte-seen}
 use Rattle.suffix.specs.declared.Identities.{Identities}
 use Rattle.suffix.specs.declared.Suffix.the-variants.{Read}

@@ -2,3 +2,4 @@ pub mod Words
 pub mod Tested
 pub mod Appendix
 pub mod Damage
+pub mod Pinned

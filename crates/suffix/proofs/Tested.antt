@@ -11,7 +11,7 @@ use Rattle.ground.specs.Text.{codes}
 use Rattle.ground.specs.Bytes.{field, prefix}
 use Rattle.ground.proofs.Lists.{onwards}
 use Rattle.ground.proofs.Tests.{lt-or-ge}
-use Rattle.crc32.specs.Crc.{crcOf}
+use Rattle.papers.specs.Crc.{crcOf}
 use Rattle.suffix.specs.declared.Identities.{Identities}
 use Rattle.suffix.specs.declared.Suffix.{Suffix}
 use Rattle.suffix.specs.declared.Suffix.the-variants.{FileTooShort, NoSignature, WrongLength, WrongCrc, Read}

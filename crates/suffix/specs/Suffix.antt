@@ -7,7 +7,7 @@ use Rattle.ground.specs.Pick.{pick}
 use Rattle.ground.specs.Said.{Said, says}
 use Rattle.ground.specs.Text.{codes}
 use Rattle.ground.specs.Bytes.{field, prefix}
-use Rattle.crc32.specs.Crc.{crcOf}
+use Rattle.papers.specs.Crc.{crcOf}
 use Rattle.suffix.specs.declared.Identities.{Identities}
 use Rattle.suffix.specs.declared.Suffix.{Suffix}
 use Rattle.suffix.specs.declared.Suffix.the-variants.{FileTooShort, NoSignature, WrongLength, WrongCrc, Read}

@@ -5,7 +5,10 @@ use mathlib.Core.List.{List, [], _∷_, _++_}
 use native.Mathlib.Omega.{arith}
 use lib.ListN.{length, take, drop, set}
 use lib.Seq.{drop-length, take-nil}
+use borrow.Author.Tests.{le-ltb}
 use Rattle.ground.specs.Bytes.{bytesLow}
+use Rattle.wire.specs.declared.Request.{Request}
+use Rattle.wire.specs.Wire.{filledFor, filledIn}
 
 -- the part of a list from its end on
 pub empty-end : (s : List ℕ) → take (length s - length s) (drop (length s) s) ≡ []
@@ -21,3 +24,7 @@ five (a ∷ b ∷ []) op n h = absurd (omega arith)
 five (a ∷ b ∷ c ∷ []) op n h = absurd (omega arith)
 five (a ∷ b ∷ c ∷ d ∷ []) op n h = absurd (omega arith)
 five (a ∷ b ∷ c ∷ d ∷ e ∷ l) op n h = refl
+
+-- five bytes or more are filled
+pub roomy : (q : Request) (cmd : List ℕ) → 5 ≤ length cmd → filledIn q cmd ≡ filledFor q cmd
+roomy q cmd h = rw (le-ltb (length cmd) 5 h)

@@ -1,7 +1,7 @@
 -- A request on the wire: document 01, 'One session, step by step', its paragraph on requests.
 use Prim.Native.Nat.{ℕ, _+_}
 use mathlib.Core.List.{List, [], _∷_, _++_}
-use lib.Dec.{leb}
+use lib.Dec.{ltb, leb}
 use Rattle.ground.specs.Pick.{pick}
 use Rattle.wire.specs.declared.Command.the-variants.{Erase, SetAddress, Block, Empty}
 use Rattle.wire.specs.declared.Request.the-variants.{GetStatus, ClearStatus, Command as Commands}
@@ -31,6 +31,10 @@ filledFor (Commands (Erase a)) cmd = 0x41 ∷ (bytesLow 4 a ++ drop 5 cmd)
 filledFor (Commands (SetAddress a)) cmd = 0x21 ∷ (bytesLow 4 a ++ drop 5 cmd)
 filledFor (Commands (Block n f m)) cmd = cmd
 filledFor (Commands (Empty n)) cmd = cmd
+
+-- fewer than five are left alone
+abbrev pub filledIn : Request → List ℕ → List ℕ
+filledIn q cmd = pick (ltb (length cmd) 5) cmd (filledFor q cmd)
 
 -- the data of a request: a part of the firmware, or the first five command bytes
 abbrev pub requestData : Request → List ℕ → List ℕ → List ℕ

@@ -6,7 +6,7 @@ ghost use lib.Dec.{leb};
 ghost use lib.ListN.{length, take, drop};
 ghost use Rattle.ground.specs.Pick.{pick};
 ghost use Rattle.ground.specs.Bytes.{bytesLow};
-ghost use Rattle.wire.specs.Wire.{filledFor, requestData, wireOf};
+ghost use Rattle.wire.specs.Wire.{filledIn, requestData, wireOf};
 
 // A download request, by what it means.
 pub enum Command {
@@ -109,11 +109,13 @@ fn put(command: &mut [u8], op: u8, position: u32)
     command[4] = (fourth % 256) as u8;
 }
 
-// The command bytes that a request carries; any other leaves them as they are.
+// The command bytes that a request carries; any other leaves them as they are, and fewer than five are left alone.
 pub fn fill(request: Request, command: &mut [u8])
-    requires { ⌜ 5 ≤ length (now command) ⌝ }
-    ensures { λ r. ⌜ now (command .exit) ≡ filledFor request (now (command .entry)) ⌝ }
+    ensures { λ r. ⌜ now (command .exit) ≡ filledIn request (now (command .entry)) ⌝ }
 {
+    if command.len() < 5 {
+        return;
+    }
     match request {
         Request::GetStatus => {}
         Request::ClearStatus => {}
@@ -143,17 +145,26 @@ fn part<'a>(s: &'a [u8], place: usize, len: usize) -> &'a [u8]
     &s[place..place + len]
 }
 
+// The first five command bytes, or all if there are fewer.
+fn first_five<'a>(command: &'a [u8]) -> &'a [u8]
+    ensures { λ d. ⌜ now d ≡ take 5 (now (command .entry)) ⌝ }
+{
+    if command.len() < 5 {
+        return command;
+    }
+    &command[..5]
+}
+
 // The data that a request carries: a part of the firmware, or the first five command bytes.
 pub fn data<'a>(request: Request, firmware: &'a [u8], command: &'a [u8]) -> &'a [u8]
-    requires { ⌜ 5 ≤ length (now command) ⌝ }
     ensures { λ d. ⌜ now d ≡ requestData request (now (firmware .entry)) (now (command .entry)) ⌝ }
 {
     match request {
         Request::GetStatus => &firmware[..0],
         Request::ClearStatus => &firmware[..0],
         Request::Command(sent) => match sent {
-            Command::Erase(_) => &command[..5],
-            Command::SetAddress(_) => &command[..5],
+            Command::Erase(_) => first_five(command),
+            Command::SetAddress(_) => first_five(command),
             Command::Block {
                 number: _,
                 place,

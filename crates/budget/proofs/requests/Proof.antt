@@ -7,6 +7,7 @@ use lib.ListN.{length}
 use Rattle.memory_layout.specs.Layout.{maxPages}
 use Rattle.download.proofs.Covering.{bounded}
 use Rattle.work.proofs.Fills.{blockCount-bound}
+use Rattle.plan.proofs.Agree.{pages-agree, blocks-agree}
 use Rattle.budget.proofs.requests.Statement.{statement}
 use Rattle.budget.proofs.requests.Tie as tie
 
@@ -29,7 +30,9 @@ add-result-2 c =
     omega (arith, c .cover .ensures, c .before .before .blocks2 .ensures, bounded (a .len) (now (a .pages)), blockCount-bound (a .len) (a .size))
 
 returns : tie.Need-returns
-returns c = simp (c .before .if1 .taken, c .cover .ensures, c .before .before .blocks2 .ensures)
+returns c =
+    let a = c .before .before .before .before .args in
+    simp (c .before .if1 .taken, c .cover .ensures, c .before .before .blocks2 .ensures, pages-agree (a .len) (now (a .pages)), blocks-agree (a .len) (a .size))
 
 add-result-3 : tie.Need-add-result-3
 add-result-3 c =
@@ -37,7 +40,9 @@ add-result-3 c =
     omega (arith, c .before .blocks2 .ensures, blockCount-bound (a .len) (a .size))
 
 returns-2 : tie.Need-returns-2
-returns-2 c = simp (c .if1 .left, c .before .blocks2 .ensures)
+returns-2 c =
+    let a = c .before .before .before .args in
+    simp (c .if1 .left, c .before .blocks2 .ensures, blocks-agree (a .len) (a .size))
 
 pub requests-spec : {M : Type 1} → statement M
 requests-spec = tie.close (tie.spec blocks-requires cover-requires add-result add-result-2 returns add-result-3 returns-2)

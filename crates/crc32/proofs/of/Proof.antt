@@ -1,7 +1,7 @@
 -- `of` meets its contract: the words of the source have the table's rule.
 use mathlib.Core.Path.{refl}
 use borrow.Author.Needs.{needs}
-use Rattle.crc32.specs.Crc.{shifted, eight}
+use Rattle.papers.specs.Crc.{shifted, eight}
 use Rattle.crc32.proofs.Rule.{rule}
 use Rattle.crc32.proofs.of.Statement.{statement}
 use Rattle.crc32.proofs.of.Tie as tie

@@ -4,7 +4,7 @@ use mathlib.Core.Path.{_≡_, refl, _∙_}
 use native.Mathlib.Omega.{arith}
 use borrow.Author.Needs.{needs}
 use lib.ListN.{length, drop}
-use Rattle.crc32.specs.Crc.{crc}
+use Rattle.papers.specs.Crc.{crc}
 use Rattle.crc32.proofs.Bytewise.{turn, over}
 use Rattle.crc32.proofs.update.Statement.{statement}
 use Rattle.crc32.proofs.update.Tie as tie

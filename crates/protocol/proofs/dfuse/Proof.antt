@@ -8,7 +8,7 @@ use Rattle.memory_layout.specs.declared.MemoryLayout.{MemoryLayout}
 use Rattle.protocol.specs.declared.Address.{Address}
 use Rattle.protocol.specs.declared.Address.the-variants.{At, NoSlash, Bad}
 use Rattle.protocol.specs.declared.Interface.{Interface}
-use Rattle.protocol.specs.Interface.{rsplit, addressOf, answered, done, settled}
+use Rattle.protocol.specs.Interface.{rsplit, addressOf, answered, done, leaves}
 use Rattle.protocol.proofs.Cuts.{at}
 use Rattle.protocol.proofs.Strings.{after, no-layout, with-layout, stored, kept, refuses, refuses-bad}
 use borrow.Author.Needs.{needs}
@@ -86,7 +86,7 @@ returns-2 c =
     let n = c .before .before .before .before .before .before .before .before .address .given .0 .0 in
     let a : addressOf (rsplit (take i s)) ≡ At n = sym (c .before .before .before .before .before .before .before .before .before .before .before .address-in .ensures) ∙ c .before .before .before .before .before .before .before .before .address .given .1 in
     stored (c .before .before .before .before .before .try-from .result) (after s i) store _ (c .before .before .before .before .before .try-from .ensures) _ n (c .before .read .given .1)
-    ∙ ap (λ (x : Address). settled (answered (checked (length store) (after s i)) x) (after s i) store) (sym a)
+    ∙ ap (λ (x : Address). leaves (answered (checked (length store) (after s i)) x) (after s i) store) (sym a)
     ∙ sym (with-layout (c .before .before .before .before .before .before .before .before .before .before .before .before .before .before .before .before .before .before .before .args .s .now) (c .before .before .before .before .before .before .before .before .before .before .before .before .before .before .before .before .before .before .before .args .store .now) _ (sym (c .before .before .before .before .before .before .before .before .before .before .before .before .before .before .before .before .last-slash .ensures) ∙ c .before .before .before .before .before .before .before .before .before .before .before .before .before .before .slash .given .1))
 
 same-length-2 : tie.Need-same-length-2
@@ -100,7 +100,7 @@ returns-3 c =
     let n = c .before .before .before .before .before .before .before .before .address .given .0 .0 in
     let a : addressOf (rsplit (take i s)) ≡ At n = sym (c .before .before .before .before .before .before .before .before .before .before .before .address-in .ensures) ∙ c .before .before .before .before .before .before .before .before .address .given .1 in
     kept (c .before .before .before .before .before .try-from .result) (after s i) store _ (c .before .before .before .before .before .try-from .ensures) _ n (c .before .read2 .given .1)
-    ∙ ap (λ (x : Address). settled (answered (checked (length store) (after s i)) x) (after s i) store) (sym a)
+    ∙ ap (λ (x : Address). leaves (answered (checked (length store) (after s i)) x) (after s i) store) (sym a)
     ∙ sym (with-layout (c .before .before .before .before .before .before .before .before .before .before .before .before .before .before .before .before .before .before .before .args .s .now) (c .before .before .before .before .before .before .before .before .before .before .before .before .before .before .before .before .before .before .before .args .store .now) _ (sym (c .before .before .before .before .before .before .before .before .before .before .before .before .before .before .before .before .last-slash .ensures) ∙ c .before .before .before .before .before .before .before .before .before .before .before .before .before .before .slash .given .1))
 
 returns-4 : tie.Need-returns-4
@@ -112,7 +112,7 @@ returns-4 c =
     let l : c .before .check .result ≡ checked (length store) (after s i) = c .before .check .ensures in
     ap (λ (r : Interface). done r store) (c .refused-by .ensures ∙ ap (λ (x : MemoryLayout). answered x NoSlash) l)
     ∙ refuses (checked (length store) (after s i)) (after s i) store
-    ∙ ap (λ (x : Address). settled (answered (checked (length store) (after s i)) x) (after s i) store) (sym a)
+    ∙ ap (λ (x : Address). leaves (answered (checked (length store) (after s i)) x) (after s i) store) (sym a)
     ∙ sym (with-layout (c .before .before .before .before .before .before .before .before .before .before .before .before .before .args .s .now) (c .before .before .before .before .before .before .before .before .before .before .before .before .before .args .store .now) _ (sym (c .before .before .before .before .before .before .before .before .before .before .last-slash .ensures) ∙ c .before .before .before .before .before .before .before .before .slash .given .1))
 
 returns-5 : tie.Need-returns-5
@@ -124,7 +124,7 @@ returns-5 c =
     let l : c .before .check2 .result ≡ checked (length store) (after s i) = c .before .check2 .ensures in
     ap (λ (r : Interface). done r store) (c .refused-by2 .ensures ∙ ap (λ (x : MemoryLayout). answered x Bad) l)
     ∙ refuses-bad (checked (length store) (after s i)) (after s i) store
-    ∙ ap (λ (x : Address). settled (answered (checked (length store) (after s i)) x) (after s i) store) (sym a)
+    ∙ ap (λ (x : Address). leaves (answered (checked (length store) (after s i)) x) (after s i) store) (sym a)
     ∙ sym (with-layout (c .before .before .before .before .before .before .before .before .before .before .before .before .before .args .s .now) (c .before .before .before .before .before .before .before .before .before .before .before .before .before .args .store .now) _ (sym (c .before .before .before .before .before .before .before .before .before .before .last-slash .ensures) ∙ c .before .before .before .before .before .before .before .before .slash .given .1))
 
 pub dfuse-spec : {M : Type 1} → statement M

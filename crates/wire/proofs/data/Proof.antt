@@ -1,6 +1,4 @@
 -- `data` meets its contract: an arm for each request.
-use mathlib.Core.Path.{sym}
-use lib.Seq.{length-take-le}
 use Rattle.wire.proofs.Lent.{empty-end}
 use borrow.Author.Needs.{needs}
 use Rattle.wire.proofs.data.Statement.{statement}
@@ -24,14 +22,14 @@ enum-known-request c = search needs
 enum-told-3 : tie.Need-enum-told-3
 enum-told-3 c = search needs
 
-slice-aggregate-result-3 : tie.Need-slice-aggregate-result-3
-slice-aggregate-result-3 c = sym (length-take-le 5 (c .before .before .before .before .before .before .before .before .args .command .now) (c .before .before .before .before .before .before .before .before .pre))
+first-five-requires : tie.Need-first-five-requires
+first-five-requires c κs = search needs
 
 enum-told-4 : tie.Need-enum-told-4
 enum-told-4 c = search needs
 
-slice-aggregate-result-4 : tie.Need-slice-aggregate-result-4
-slice-aggregate-result-4 c = sym (length-take-le 5 (c .before .before .before .before .before .before .before .before .args .command .now) (c .before .before .before .before .before .before .before .before .pre))
+first-five-requires-2 : tie.Need-first-five-requires-2
+first-five-requires-2 c κs = search needs
 
 enum-known-sent : tie.Need-enum-known-sent
 enum-known-sent c = search needs
@@ -64,10 +62,10 @@ returns-2 : tie.Need-returns-2
 returns-2 c = search needs
 
 returns-3 : tie.Need-returns-3
-returns-3 c = rw (c .before .before .before .before .request .given .1, c .before .enum-told3 .given .1)
+returns-3 c = rw (c .before .before .before .before .request .given .1, c .before .enum-told3 .given .1) (c .first-five .ensures)
 
 returns-4 : tie.Need-returns-4
-returns-4 c = rw (c .before .before .before .before .request .given .1, c .before .enum-told4 .given .1)
+returns-4 c = rw (c .before .before .before .before .request .given .1, c .before .enum-told4 .given .1) (c .first-five2 .ensures)
 
 returns-5 : tie.Need-returns-5
 returns-5 c = rw (c .before .before .before .before .before .request .given .1, c .before .before .sent .given .1) (c .part .ensures)
@@ -85,9 +83,9 @@ data-spec =
     slice-aggregate-result-2
     enum-known-request
     enum-told-3
-    slice-aggregate-result-3
+    first-five-requires
     enum-told-4
-    slice-aggregate-result-4
+    first-five-requires-2
     enum-known-sent
     cast-part
     cast-part-2

@@ -2,6 +2,7 @@
 use mathlib.Core.Path.{sym, ap, _∙_}
 use Rattle.machine.specs.declared.Ask.{Ask}
 use Rattle.session.specs.Calls.{filledBy, out}
+use Rattle.wire.proofs.Lent.{roomy}
 use borrow.Author.Needs.{needs}
 use Rattle.session.proofs.lending.filled_in.Statement.{statement}
 use Rattle.session.proofs.lending.filled_in.Tie as tie
@@ -30,7 +31,7 @@ same-length c = search needs
 returns : tie.Need-returns
 returns c =
     let a = c .before .before .before .before .before .before .before .before .args in
-    ap (out (a .step)) (c .before .before .fill .ensures ∙ ap (λ (x : Ask). filledBy x (a .command .now)) (sym (c .before .before .before .before .before .says .given .1)))
+    ap (out (a .step)) (c .before .before .fill .ensures ∙ roomy (c .before .before .before .before .before .says .given .0 .0) (a .command .now) (c .before .before .before .before .before .before .before .before .pre) ∙ ap (λ (x : Ask). filledBy x (a .command .now)) (sym (c .before .before .before .before .before .says .given .1)))
 
 returns-2 : tie.Need-returns-2
 returns-2 c = rw (c .enum-told .given .1)
