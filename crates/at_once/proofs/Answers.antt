@@ -3,9 +3,9 @@ use Prim.Native.Nat.{ℕ}
 use mathlib.Core.Path.{_≡_, ap, sym, _∙_}
 use mathlib.Core.List.{List}
 use lib.ListN.{length}
+use Rattle.machine.specs.declared.Phase.{Phase}
 use Rattle.session.specs.Told.{Answer}
 use Rattle.session.specs.Calls.{called, out, callOf}
-use Rattle.machine.specs.declared.Phase.{Phase}
 use Rattle.session.specs.declared.Session.{Session}
 use Rattle.session.specs.declared.Step.{Step}
 use Rattle.plan.specs.Answers.{Unreplied}

@@ -8,10 +8,10 @@ use lib.ListN.{length}
 use lib.Dec.{eqb}
 use borrow.Author.Tests.{le-ltb, eq-eqb}
 use Rattle.ground.specs.Bytes.{littleEndian, field}
-use Rattle.functional_descriptor.specs.declared.FunctionalDescriptor.{FunctionalDescriptor}
-use Rattle.functional_descriptor.specs.declared.Descriptor.the-variants.{Read}
-use Rattle.functional_descriptor.specs.Descriptor.{flag, descriptorOf}
 use Rattle.papers.specs.Descriptor.{Functional, weigh, bytesOf}
+use Rattle.functional_descriptor.specs.declared.FunctionalDescriptor.{FunctionalDescriptor}
+use Rattle.functional_descriptor.specs.Descriptor.{flag, descriptorOf}
+use Rattle.functional_descriptor.specs.declared.Descriptor.{Descriptor}
 
 -- the table's fields under the Rust's names
 abbrev pub named : Functional → FunctionalDescriptor
@@ -61,7 +61,7 @@ module _ (a b c d : Bool) (r : ℕ) where
 pair : (n : ℕ) → (0 * 256 + n / 256) * 256 + n % 256 ≡ n
 pair n = omega arith
 
-pub reads-the-table : (d : Functional) (more : List ℕ) → descriptorOf (bytesOf d ++ more) ≡ Read (named d)
+pub reads-the-table : (d : Functional) (more : List ℕ) → descriptorOf (bytesOf d ++ more) ≡ Descriptor.Read (named d)
 unfolding field littleEndian sum
 reads-the-table d more =
     let f = flags (d .bitCanDnload) (d .bitCanUpload) (d .bitManifestationTolerant) (d .bitWillDetach) (d .reserved) in

@@ -9,7 +9,6 @@ use Rattle.ground.specs.Said.{Said, says}
 use Rattle.ground.specs.Bytes.{field}
 use Rattle.functional_descriptor.specs.declared.FunctionalDescriptor.{FunctionalDescriptor}
 use Rattle.functional_descriptor.specs.declared.Descriptor.{Descriptor}
-use Rattle.functional_descriptor.specs.declared.Descriptor.the-variants.{NotOne, DataTooShort, Read}
 
 -- whether the bit of a weight is set
 abbrev pub flag : ℕ → ℕ → Bool
@@ -30,19 +29,19 @@ fieldsOf bs = record {
 -- fewer than 2 bytes, or byte 1 not 0x21: not one; then fewer than 9: too short
 abbrev pub descriptorOf : List ℕ → Descriptor
 descriptorOf bs =
-    pick (ltb (length bs) 2) NotOne
+    pick (ltb (length bs) 2) Descriptor.NotOne
     (pick (eqb (getD bs 1 0) 0x21)
-    (pick (ltb (length bs) 9) (DataTooShort (length bs)) (Read (fieldsOf bs)))
-    NotOne)
+    (pick (ltb (length bs) 9) (Descriptor.DataTooShort (length bs)) (Descriptor.Read (fieldsOf bs)))
+    Descriptor.NotOne)
 
 abbrev pub bitOf : Bool → ℕ
 bitOf b = pick b 1 0
 
 -- document 01's number and values for each answer
 abbrev pub saidOf : Descriptor → Said
-saidOf NotOne = says 0 []
-saidOf (DataTooShort got) = says 14 (got ∷ [])
-saidOf (Read d) =
+saidOf Descriptor.NotOne = says 0 []
+saidOf (Descriptor.DataTooShort got) = says 14 (got ∷ [])
+saidOf (Descriptor.Read d) =
     says 0
     (bitOf (d .«can_download»)
     ∷ bitOf (d .«can_upload»)

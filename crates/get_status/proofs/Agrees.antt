@@ -6,13 +6,12 @@ use native.Mathlib.Omega.{arith}
 use lib.ListN.{length}
 use borrow.Author.Tests.{le-ltb}
 use Rattle.ground.specs.Bytes.{littleEndian, field}
+use Rattle.papers.specs.Status.{StatusReply, bytesOf, DfuState, bStateOf, appIDLE, appDETACH, dfuIDLE, dfuDNLOAD-SYNC, dfuDNBUSY, dfuDNLOAD-IDLE, dfuMANIFEST-SYNC, dfuMANIFEST, dfuMANIFEST-WAIT-RESET, dfuUPLOAD-IDLE, dfuERROR}
 use Rattle.get_status.specs.declared.State.{State}
-use Rattle.get_status.specs.declared.State.the-variants.{AppIdle, AppDetach, DfuIdle, DfuDnloadSync, DfuDnbusy, DfuDnloadIdle, DfuManifestSync, DfuManifest, DfuManifestWaitReset, DfuUploadIdle, DfuError}
 use Rattle.get_status.specs.declared.GetStatusMessage.{GetStatusMessage}
-use Rattle.get_status.specs.declared.Reply.the-variants.{Read}
 use Rattle.get_status.specs.Names.{stateOf, stateByte, statusOf, settled}
 use Rattle.get_status.specs.Reply.{replyOf}
-use Rattle.papers.specs.Status.{StatusReply, bytesOf, DfuState, bStateOf, appIDLE, appDETACH, dfuIDLE, dfuDNLOAD-SYNC, dfuDNBUSY, dfuDNLOAD-IDLE, dfuMANIFEST-SYNC, dfuMANIFEST, dfuMANIFEST-WAIT-RESET, dfuUPLOAD-IDLE, dfuERROR}
+use Rattle.get_status.specs.declared.Reply.{Reply}
 
 -- the reply's fields under the Rust's names, 6 taken as 7 and 3 as 4
 abbrev pub named : StatusReply → GetStatusMessage
@@ -26,23 +25,23 @@ named r = record {
 triple : (n : ℕ) → ((0 * 256 + n / 65536) * 256 + n / 256 % 256) * 256 + n % 256 ≡ n
 triple n = omega arith
 
-pub reads-the-reply : (r : StatusReply) (more : List ℕ) → replyOf (bytesOf r ++ more) ≡ Read (named r)
+pub reads-the-reply : (r : StatusReply) (more : List ℕ) → replyOf (bytesOf r ++ more) ≡ Reply.Read (named r)
 unfolding field littleEndian
 reads-the-reply r more = simp (le-ltb (length (bytesOf r ++ more)) 6 (omega arith), triple (r .bwPollTimeout))
 
 -- the paper's states under the Rust's names have the paper's numbers
 abbrev pub stateNamed : DfuState → State
-stateNamed appIDLE = AppIdle
-stateNamed appDETACH = AppDetach
-stateNamed dfuIDLE = DfuIdle
-stateNamed dfuDNLOAD-SYNC = DfuDnloadSync
-stateNamed dfuDNBUSY = DfuDnbusy
-stateNamed dfuDNLOAD-IDLE = DfuDnloadIdle
-stateNamed dfuMANIFEST-SYNC = DfuManifestSync
-stateNamed dfuMANIFEST = DfuManifest
-stateNamed dfuMANIFEST-WAIT-RESET = DfuManifestWaitReset
-stateNamed dfuUPLOAD-IDLE = DfuUploadIdle
-stateNamed dfuERROR = DfuError
+stateNamed appIDLE = State.AppIdle
+stateNamed appDETACH = State.AppDetach
+stateNamed dfuIDLE = State.DfuIdle
+stateNamed dfuDNLOAD-SYNC = State.DfuDnloadSync
+stateNamed dfuDNBUSY = State.DfuDnbusy
+stateNamed dfuDNLOAD-IDLE = State.DfuDnloadIdle
+stateNamed dfuMANIFEST-SYNC = State.DfuManifestSync
+stateNamed dfuMANIFEST = State.DfuManifest
+stateNamed dfuMANIFEST-WAIT-RESET = State.DfuManifestWaitReset
+stateNamed dfuUPLOAD-IDLE = State.DfuUploadIdle
+stateNamed dfuERROR = State.DfuError
 
 pub state-numbers : (s : DfuState) → (stateByte (stateNamed s) ≡ bStateOf s) × (stateOf (bStateOf s) ≡ stateNamed s)
 state-numbers appIDLE = (refl, refl)

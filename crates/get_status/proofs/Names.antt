@@ -6,9 +6,7 @@ use native.Mathlib.Omega.{arith}
 use lib.ListN.{getD, List·getD-eq-default}
 use Rattle.get_status.specs.Names.{stateNames, stateOf, stateByte, statusNames, statusOf, statusByte}
 use Rattle.get_status.specs.declared.State.{State}
-use Rattle.get_status.specs.declared.State.the-variants.{AppIdle, AppDetach, DfuIdle, DfuDnloadSync, DfuDnbusy, DfuDnloadIdle, DfuManifestSync, DfuManifest, DfuManifestWaitReset, DfuUploadIdle, DfuError, Other}
 use Rattle.get_status.specs.declared.Status.{Status}
-use Rattle.get_status.specs.declared.Status.the-variants.{Ok, ErrTarget, ErrFile, ErrWrite, ErrErase, ErrCheckErased, ErrProg, ErrVerify, ErrAddress, ErrNotdone, ErrFirmware, ErrVendor, ErrUsbr, ErrPor, ErrUnknown, ErrStalledpkt, Other as OtherStatus}
 
 -- names whose bytes count up from k
 abbrev Counts : {A : Type 0} → (A → ℕ) → List A → ℕ → Type 0
@@ -24,79 +22,79 @@ counted f (a ∷ l) k (suc b) d h e = counted f l (suc k) b d (h .1) (omega arit
 
 -- byte to name to byte, for every byte
 pub state-byte : (b : ℕ) → stateByte (stateOf b) ≡ b
-state-byte b = counted stateByte stateNames 0 b (Other b) (refl, (refl, (refl, (refl, (refl, (refl, (refl, (refl, (refl, (refl, (refl, tt))))))))))) (omega arith) ∙ omega arith
+state-byte b = counted stateByte stateNames 0 b (State.Other b) (refl, (refl, (refl, (refl, (refl, (refl, (refl, (refl, (refl, (refl, (refl, tt))))))))))) (omega arith) ∙ omega arith
 
 pub status-byte : (b : ℕ) → statusByte (statusOf b) ≡ b
-status-byte b = counted statusByte statusNames 0 b (OtherStatus b) (refl, (refl, (refl, (refl, (refl, (refl, (refl, (refl, (refl, (refl, (refl, (refl, (refl, (refl, (refl, (refl, tt)))))))))))))))) (omega arith) ∙ omega arith
+status-byte b = counted statusByte statusNames 0 b (Status.Other b) (refl, (refl, (refl, (refl, (refl, (refl, (refl, (refl, (refl, (refl, (refl, (refl, (refl, (refl, (refl, (refl, tt)))))))))))))))) (omega arith) ∙ omega arith
 
 -- a name that stands for its byte: any but `Other` of a byte that has a name of its own
 abbrev pub NamedState : State → Type 0
-NamedState AppIdle = Unit
-NamedState AppDetach = Unit
-NamedState DfuIdle = Unit
-NamedState DfuDnloadSync = Unit
-NamedState DfuDnbusy = Unit
-NamedState DfuDnloadIdle = Unit
-NamedState DfuManifestSync = Unit
-NamedState DfuManifest = Unit
-NamedState DfuManifestWaitReset = Unit
-NamedState DfuUploadIdle = Unit
-NamedState DfuError = Unit
-NamedState (Other b) = 10 < b
+NamedState State.AppIdle = Unit
+NamedState State.AppDetach = Unit
+NamedState State.DfuIdle = Unit
+NamedState State.DfuDnloadSync = Unit
+NamedState State.DfuDnbusy = Unit
+NamedState State.DfuDnloadIdle = Unit
+NamedState State.DfuManifestSync = Unit
+NamedState State.DfuManifest = Unit
+NamedState State.DfuManifestWaitReset = Unit
+NamedState State.DfuUploadIdle = Unit
+NamedState State.DfuError = Unit
+NamedState (State.Other b) = 10 < b
 
 -- name to byte to name
 pub state-name : (s : State) → NamedState s → stateOf (stateByte s) ≡ s
-state-name AppIdle h = refl
-state-name AppDetach h = refl
-state-name DfuIdle h = refl
-state-name DfuDnloadSync h = refl
-state-name DfuDnbusy h = refl
-state-name DfuDnloadIdle h = refl
-state-name DfuManifestSync h = refl
-state-name DfuManifest h = refl
-state-name DfuManifestWaitReset h = refl
-state-name DfuUploadIdle h = refl
-state-name DfuError h = refl
-state-name (Other b) h = List·getD-eq-default stateNames (Other b) {n = b} h
+state-name State.AppIdle h = refl
+state-name State.AppDetach h = refl
+state-name State.DfuIdle h = refl
+state-name State.DfuDnloadSync h = refl
+state-name State.DfuDnbusy h = refl
+state-name State.DfuDnloadIdle h = refl
+state-name State.DfuManifestSync h = refl
+state-name State.DfuManifest h = refl
+state-name State.DfuManifestWaitReset h = refl
+state-name State.DfuUploadIdle h = refl
+state-name State.DfuError h = refl
+state-name (State.Other b) h = List·getD-eq-default stateNames (State.Other b) {n = b} h
 
 -- the same for a status
 abbrev pub NamedStatus : Status → Type 0
-NamedStatus Ok = Unit
-NamedStatus ErrTarget = Unit
-NamedStatus ErrFile = Unit
-NamedStatus ErrWrite = Unit
-NamedStatus ErrErase = Unit
-NamedStatus ErrCheckErased = Unit
-NamedStatus ErrProg = Unit
-NamedStatus ErrVerify = Unit
-NamedStatus ErrAddress = Unit
-NamedStatus ErrNotdone = Unit
-NamedStatus ErrFirmware = Unit
-NamedStatus ErrVendor = Unit
-NamedStatus ErrUsbr = Unit
-NamedStatus ErrPor = Unit
-NamedStatus ErrUnknown = Unit
-NamedStatus ErrStalledpkt = Unit
-NamedStatus (OtherStatus b) = 15 < b
+NamedStatus Status.Ok = Unit
+NamedStatus Status.ErrTarget = Unit
+NamedStatus Status.ErrFile = Unit
+NamedStatus Status.ErrWrite = Unit
+NamedStatus Status.ErrErase = Unit
+NamedStatus Status.ErrCheckErased = Unit
+NamedStatus Status.ErrProg = Unit
+NamedStatus Status.ErrVerify = Unit
+NamedStatus Status.ErrAddress = Unit
+NamedStatus Status.ErrNotdone = Unit
+NamedStatus Status.ErrFirmware = Unit
+NamedStatus Status.ErrVendor = Unit
+NamedStatus Status.ErrUsbr = Unit
+NamedStatus Status.ErrPor = Unit
+NamedStatus Status.ErrUnknown = Unit
+NamedStatus Status.ErrStalledpkt = Unit
+NamedStatus (Status.Other b) = 15 < b
 
 pub status-name : (s : Status) → NamedStatus s → statusOf (statusByte s) ≡ s
-status-name Ok h = refl
-status-name ErrTarget h = refl
-status-name ErrFile h = refl
-status-name ErrWrite h = refl
-status-name ErrErase h = refl
-status-name ErrCheckErased h = refl
-status-name ErrProg h = refl
-status-name ErrVerify h = refl
-status-name ErrAddress h = refl
-status-name ErrNotdone h = refl
-status-name ErrFirmware h = refl
-status-name ErrVendor h = refl
-status-name ErrUsbr h = refl
-status-name ErrPor h = refl
-status-name ErrUnknown h = refl
-status-name ErrStalledpkt h = refl
-status-name (OtherStatus b) h = List·getD-eq-default statusNames (OtherStatus b) {n = b} h
+status-name Status.Ok h = refl
+status-name Status.ErrTarget h = refl
+status-name Status.ErrFile h = refl
+status-name Status.ErrWrite h = refl
+status-name Status.ErrErase h = refl
+status-name Status.ErrCheckErased h = refl
+status-name Status.ErrProg h = refl
+status-name Status.ErrVerify h = refl
+status-name Status.ErrAddress h = refl
+status-name Status.ErrNotdone h = refl
+status-name Status.ErrFirmware h = refl
+status-name Status.ErrVendor h = refl
+status-name Status.ErrUsbr h = refl
+status-name Status.ErrPor h = refl
+status-name Status.ErrUnknown h = refl
+status-name Status.ErrStalledpkt h = refl
+status-name (Status.Other b) h = List·getD-eq-default statusNames (Status.Other b) {n = b} h
 
 -- the reader gives no other name: what it gives comes back
 pub state-read : (b : ℕ) → stateOf (stateByte (stateOf b)) ≡ stateOf b

@@ -3,97 +3,95 @@ use Prim.Native.Nat.{ℕ}
 use mathlib.Core.List.{List, [], _∷_}
 use lib.ListN.{getD}
 use Rattle.get_status.specs.declared.State.{State}
-use Rattle.get_status.specs.declared.State.the-variants.{AppIdle, AppDetach, DfuIdle, DfuDnloadSync, DfuDnbusy, DfuDnloadIdle, DfuManifestSync, DfuManifest, DfuManifestWaitReset, DfuUploadIdle, DfuError, Other}
 use Rattle.get_status.specs.declared.Status.{Status}
-use Rattle.get_status.specs.declared.Status.the-variants.{Ok, ErrTarget, ErrFile, ErrWrite, ErrErase, ErrCheckErased, ErrProg, ErrVerify, ErrAddress, ErrNotdone, ErrFirmware, ErrVendor, ErrUsbr, ErrPor, ErrUnknown, ErrStalledpkt, Other as OtherStatus}
 
 -- states 0 to 10 have names; any other byte is kept
 abbrev pub stateNames : List State
 stateNames =
-    AppIdle
-    ∷ AppDetach
-    ∷ DfuIdle
-    ∷ DfuDnloadSync
-    ∷ DfuDnbusy
-    ∷ DfuDnloadIdle
-    ∷ DfuManifestSync
-    ∷ DfuManifest
-    ∷ DfuManifestWaitReset
-    ∷ DfuUploadIdle
-    ∷ DfuError
+    State.AppIdle
+    ∷ State.AppDetach
+    ∷ State.DfuIdle
+    ∷ State.DfuDnloadSync
+    ∷ State.DfuDnbusy
+    ∷ State.DfuDnloadIdle
+    ∷ State.DfuManifestSync
+    ∷ State.DfuManifest
+    ∷ State.DfuManifestWaitReset
+    ∷ State.DfuUploadIdle
+    ∷ State.DfuError
     ∷ []
 
 abbrev pub stateOf : ℕ → State
-stateOf b = getD stateNames b (Other b)
+stateOf b = getD stateNames b (State.Other b)
 
 abbrev pub stateByte : State → ℕ
-stateByte AppIdle = 0
-stateByte AppDetach = 1
-stateByte DfuIdle = 2
-stateByte DfuDnloadSync = 3
-stateByte DfuDnbusy = 4
-stateByte DfuDnloadIdle = 5
-stateByte DfuManifestSync = 6
-stateByte DfuManifest = 7
-stateByte DfuManifestWaitReset = 8
-stateByte DfuUploadIdle = 9
-stateByte DfuError = 10
-stateByte (Other b) = b
+stateByte State.AppIdle = 0
+stateByte State.AppDetach = 1
+stateByte State.DfuIdle = 2
+stateByte State.DfuDnloadSync = 3
+stateByte State.DfuDnbusy = 4
+stateByte State.DfuDnloadIdle = 5
+stateByte State.DfuManifestSync = 6
+stateByte State.DfuManifest = 7
+stateByte State.DfuManifestWaitReset = 8
+stateByte State.DfuUploadIdle = 9
+stateByte State.DfuError = 10
+stateByte (State.Other b) = b
 
 -- statuses 0x00 to 0x0f have names; any other byte is kept
 abbrev pub statusNames : List Status
 statusNames =
-    Ok
-    ∷ ErrTarget
-    ∷ ErrFile
-    ∷ ErrWrite
-    ∷ ErrErase
-    ∷ ErrCheckErased
-    ∷ ErrProg
-    ∷ ErrVerify
-    ∷ ErrAddress
-    ∷ ErrNotdone
-    ∷ ErrFirmware
-    ∷ ErrVendor
-    ∷ ErrUsbr
-    ∷ ErrPor
-    ∷ ErrUnknown
-    ∷ ErrStalledpkt
+    Status.Ok
+    ∷ Status.ErrTarget
+    ∷ Status.ErrFile
+    ∷ Status.ErrWrite
+    ∷ Status.ErrErase
+    ∷ Status.ErrCheckErased
+    ∷ Status.ErrProg
+    ∷ Status.ErrVerify
+    ∷ Status.ErrAddress
+    ∷ Status.ErrNotdone
+    ∷ Status.ErrFirmware
+    ∷ Status.ErrVendor
+    ∷ Status.ErrUsbr
+    ∷ Status.ErrPor
+    ∷ Status.ErrUnknown
+    ∷ Status.ErrStalledpkt
     ∷ []
 
 abbrev pub statusOf : ℕ → Status
-statusOf b = getD statusNames b (OtherStatus b)
+statusOf b = getD statusNames b (Status.Other b)
 
 abbrev pub statusByte : Status → ℕ
-statusByte Ok = 0x00
-statusByte ErrTarget = 0x01
-statusByte ErrFile = 0x02
-statusByte ErrWrite = 0x03
-statusByte ErrErase = 0x04
-statusByte ErrCheckErased = 0x05
-statusByte ErrProg = 0x06
-statusByte ErrVerify = 0x07
-statusByte ErrAddress = 0x08
-statusByte ErrNotdone = 0x09
-statusByte ErrFirmware = 0x0a
-statusByte ErrVendor = 0x0b
-statusByte ErrUsbr = 0x0c
-statusByte ErrPor = 0x0d
-statusByte ErrUnknown = 0x0e
-statusByte ErrStalledpkt = 0x0f
-statusByte (OtherStatus b) = b
+statusByte Status.Ok = 0x00
+statusByte Status.ErrTarget = 0x01
+statusByte Status.ErrFile = 0x02
+statusByte Status.ErrWrite = 0x03
+statusByte Status.ErrErase = 0x04
+statusByte Status.ErrCheckErased = 0x05
+statusByte Status.ErrProg = 0x06
+statusByte Status.ErrVerify = 0x07
+statusByte Status.ErrAddress = 0x08
+statusByte Status.ErrNotdone = 0x09
+statusByte Status.ErrFirmware = 0x0a
+statusByte Status.ErrVendor = 0x0b
+statusByte Status.ErrUsbr = 0x0c
+statusByte Status.ErrPor = 0x0d
+statusByte Status.ErrUnknown = 0x0e
+statusByte Status.ErrStalledpkt = 0x0f
+statusByte (Status.Other b) = b
 
 -- 6 is taken as 7, and 3 as 4
 abbrev pub settled : State → State
-settled AppIdle = AppIdle
-settled AppDetach = AppDetach
-settled DfuIdle = DfuIdle
-settled DfuDnloadSync = DfuDnbusy
-settled DfuDnbusy = DfuDnbusy
-settled DfuDnloadIdle = DfuDnloadIdle
-settled DfuManifestSync = DfuManifest
-settled DfuManifest = DfuManifest
-settled DfuManifestWaitReset = DfuManifestWaitReset
-settled DfuUploadIdle = DfuUploadIdle
-settled DfuError = DfuError
-settled (Other b) = Other b
+settled State.AppIdle = State.AppIdle
+settled State.AppDetach = State.AppDetach
+settled State.DfuIdle = State.DfuIdle
+settled State.DfuDnloadSync = State.DfuDnbusy
+settled State.DfuDnbusy = State.DfuDnbusy
+settled State.DfuDnloadIdle = State.DfuDnloadIdle
+settled State.DfuManifestSync = State.DfuManifest
+settled State.DfuManifest = State.DfuManifest
+settled State.DfuManifestWaitReset = State.DfuManifestWaitReset
+settled State.DfuUploadIdle = State.DfuUploadIdle
+settled State.DfuError = State.DfuError
+settled (State.Other b) = State.Other b

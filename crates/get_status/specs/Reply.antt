@@ -10,9 +10,7 @@ use Rattle.get_status.specs.Names.{stateOf, stateByte, statusOf, statusB
 use Rattle.get_status.specs.declared.State.{State}
 use Rattle.get_status.specs.declared.GetStatusMessage.{GetStatusMessage}
 use Rattle.get_status.specs.declared.Reply.{Reply}
-use Rattle.get_status.specs.declared.Reply.the-variants.{ResponseTooShort, StatusError, Read}
 use Rattle.get_status.specs.declared.Met.{Met}
-use Rattle.get_status.specs.declared.Met.the-variants.{Reached, Busy, InvalidState}
 
 -- byte 0 status, 1-3 poll milliseconds, 4 state, 5 string index
 abbrev pub messageOf : List ℕ → GetStatusMessage
@@ -25,13 +23,13 @@ messageOf bs = record {
 
 -- fewer than 6 bytes is refused; the rest is ignored
 abbrev pub replyOf : List ℕ → Reply
-replyOf bs = pick (ltb (length bs) 6) (ResponseTooShort (length bs)) (Read (messageOf bs))
+replyOf bs = pick (ltb (length bs) 6) (Reply.ResponseTooShort (length bs)) (Reply.Read (messageOf bs))
 
 -- read strictly, a status other than 0 is refused and carried; the length is tested before it, no state is
 abbrev pub strict : Reply → Reply
-strict (ResponseTooShort got) = ResponseTooShort got
-strict (StatusError status) = StatusError status
-strict (Read m) = pick (eqb (statusByte (m .status)) 0) (Read m) (StatusError (m .status))
+strict (Reply.ResponseTooShort got) = Reply.ResponseTooShort got
+strict (Reply.StatusError status) = Reply.StatusError status
+strict (Reply.Read m) = pick (eqb (statusByte (m .status)) 0) (Reply.Read m) (Reply.StatusError (m .status))
 
 abbrev pub strictReplyOf : List ℕ → Reply
 strictReplyOf bs = strict (replyOf bs)
@@ -39,16 +37,16 @@ strictReplyOf bs = strict (replyOf bs)
 -- target reached; busy, with the reply's milliseconds; otherwise wrong, the busy state being expected
 abbrev pub judged : GetStatusMessage → State → State → Met
 judged m busy target =
-    pick (eqb (stateByte (m .state)) (stateByte target)) Reached
-    (pick (eqb (stateByte (m .state)) (stateByte busy)) (Busy (m .«poll_timeout»)) (InvalidState (m .state) busy))
+    pick (eqb (stateByte (m .state)) (stateByte target)) Met.Reached
+    (pick (eqb (stateByte (m .state)) (stateByte busy)) (Met.Busy (m .«poll_timeout»)) (Met.InvalidState (m .state) busy))
 
 -- document 01's number and values for each answer
 abbrev pub saidOf : Reply → Said
-saidOf (ResponseTooShort got) = says 6 (got ∷ 6 ∷ [])
-saidOf (StatusError status) = says 27 (statusByte status ∷ [])
-saidOf (Read m) = says 0 (statusByte (m .status) ∷ m .«poll_timeout» ∷ stateByte (m .state) ∷ m .index ∷ [])
+saidOf (Reply.ResponseTooShort got) = says 6 (got ∷ 6 ∷ [])
+saidOf (Reply.StatusError status) = says 27 (statusByte status ∷ [])
+saidOf (Reply.Read m) = says 0 (statusByte (m .status) ∷ m .«poll_timeout» ∷ stateByte (m .state) ∷ m .index ∷ [])
 
 abbrev pub saidMet : Met → Said
-saidMet Reached = says 0 []
-saidMet (Busy ms) = says 0 (ms ∷ [])
-saidMet (InvalidState got expected) = says 2 (stateByte got ∷ stateByte expected ∷ [])
+saidMet Met.Reached = says 0 []
+saidMet (Met.Busy ms) = says 0 (ms ∷ [])
+saidMet (Met.InvalidState got expected) = says 2 (stateByte got ∷ stateByte expected ∷ [])

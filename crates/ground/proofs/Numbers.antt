@@ -5,8 +5,8 @@ use mathlib.Core.List.{List, [], _∷_}
 use native.Mathlib.Omega.{arith}
 use lib.ListN.{length, take, drop, getD, drop-of-length-le, length-take, length-drop}
 use lib.Seq.{drop-cons, getD-take}
-use Rattle.ground.proofs.Lists.{onwards}
 use Rattle.ground.specs.Bytes.{littleEndian, field, Bytes}
+use Rattle.ground.proofs.Lists.{onwards}
 
 -- a list whose elements are known to be bytes, and its parts
 pub bytes-of : (l : List ℕ) → ((i : ℕ) → getD l i 0 < 256) → Bytes l

@@ -3,12 +3,12 @@ use Prim.Native.Nat.{ℕ, zero, suc, _-_, _<_}
 use mathlib.Core.Path.{_≡_, refl, ap}
 use native.Mathlib.Omega.{arith}
 use Rattle.work.specs.declared.Progress.{Progress}
+use Rattle.work.specs.declared.Error.{Error}
 use Rattle.machine.specs.declared.Phase.{Phase}
-use Rattle.work.specs.declared.Error.the-variants.{BudgetSpent}
 use Rattle.machine.specs.Machine.{to, refuse, issue}
 
 -- a transfer with nothing left, and with something
-pub spent : (pr : Progress) (l : ℕ) (then : Progress) (p : Phase) → l ≡ 0 → refuse pr l BudgetSpent ≡ issue pr l then p
+pub spent : (pr : Progress) (l : ℕ) (then : Progress) (p : Phase) → l ≡ 0 → refuse pr l Error.BudgetSpent ≡ issue pr l then p
 spent pr zero then p e = refl
 spent pr (suc l) then p e = absurd (omega arith)
 

@@ -10,10 +10,10 @@ use lib.Seq.{take-append-seam, getD-append-seam, drop-append-add}
 use borrow.Author.Tests.{eq-eqb, ne-eqb, le-ltb}
 use Rattle.ground.proofs.Lists.{Without}
 use Rattle.number.specs.Number.{numberOf}
-use Rattle.number.specs.declared.Number.the-variants.{Value}
-use Rattle.memory_layout.specs.declared.Piece.the-variants.{Run}
-use Rattle.memory_layout.specs.declared.MemoryLayout.the-variants.{Pages}
+use Rattle.number.specs.declared.Number.{Number}
 use Rattle.memory_layout.specs.Layout.{maxPages, maxText, upTo, split, factorOf, starred, pieceOf, pieces, checked, sizes}
+use Rattle.memory_layout.specs.declared.Piece.{Piece}
+use Rattle.memory_layout.specs.declared.MemoryLayout.{MemoryLayout}
 use Rattle.memory_layout.proofs.Pieces.{fits}
 
 -- the bytes before the first x
@@ -34,8 +34,8 @@ first [] t f = refl
 first (c ∷ p) t f = simp (first p t (f .1), ne-eqb c 44 (f .0))
 
 -- a piece: a count, a star, a size, a unit and a type
-pub piece : (count size : List ℕ) (unit type n v f at : ℕ) → Without 42 count → numberOf 10 count ≡ Value n → numberOf 10 size ≡ Value v
-    → factorOf unit ≡ f → 0 < f → v * f < 4294967296 → pieceOf (count ++ (42 ∷ (size ++ (unit ∷ type ∷ [])))) at ≡ Run n (v * f)
+pub piece : (count size : List ℕ) (unit type n v f at : ℕ) → Without 42 count → numberOf 10 count ≡ Number.Value n → numberOf 10 size ≡ Number.Value v
+    → factorOf unit ≡ f → 0 < f → v * f < 4294967296 → pieceOf (count ++ (42 ∷ (size ++ (unit ∷ type ∷ [])))) at ≡ Piece.Run n (v * f)
 unfolding pieceOf starred
 piece count size unit type n v f at w c s u k l =
     let rest = size ++ (unit ∷ type ∷ []) in
@@ -49,14 +49,14 @@ piece count size unit type n v f at w c s u k l =
 
 -- pieces that announce these pages, from any place on: each is taken where there is room for all
 pub record Announces (ps : List (List ℕ)) (pages : List ℕ) : Type 0 where
-  pub taken : (room at n m : ℕ) → n + length pages ≡ m → m ≤ room → pieces room ps at n ≡ Pages m
+  pub taken : (room at n m : ℕ) → n + length pages ≡ m → m ≤ room → pieces room ps at n ≡ MemoryLayout.Pages m
   pub listed : (at : ℕ) → sizes ps at ≡ pages
 
 pub nothing : Announces [] []
 unfolding pieces sizes
-nothing = record { taken = λ room at n m e h. ap Pages (omega arith); listed = λ at. refl }
+nothing = record { taken = λ room at n m e h. ap MemoryLayout.Pages (omega arith); listed = λ at. refl }
 
-pub more : (p : List ℕ) (ps : List (List ℕ)) (n v : ℕ) (pages : List ℕ) → ((at : ℕ) → pieceOf p at ≡ Run n v) → Announces ps pages
+pub more : (p : List ℕ) (ps : List (List ℕ)) (n v : ℕ) (pages : List ℕ) → ((at : ℕ) → pieceOf p at ≡ Piece.Run n v) → Announces ps pages
     → Announces (p ∷ ps) (replicate n v ++ pages)
 unfolding pieces sizes
 more p ps n v pages run a =
@@ -68,6 +68,6 @@ more p ps n v pages run a =
 
 -- so a text of such pieces is accepted
 pub accepts : (store : ℕ) (text pages : List ℕ) → Announces (split text) pages
-    → length text ≤ maxText → length pages ≤ maxPages → length pages ≤ store → checked store text ≡ Pages (length pages)
+    → length text ≤ maxText → length pages ≤ maxPages → length pages ≤ store → checked store text ≡ MemoryLayout.Pages (length pages)
 unfolding checked
 accepts store text pages a t p s = simp (le-ltb maxText (length text) t) (a .taken _ 0 0 (length pages) (omega arith) (omega arith))

@@ -9,11 +9,9 @@ use lib.ListN.{length, take, drop, length-drop}
 use lib.Seq.{drop-drop}
 use borrow.Author.Tests.{eq-eqb, ne-eqb, lt-ltb, le-ltb}
 use Rattle.memory_layout.specs.declared.Error.{Error}
-use Rattle.memory_layout.specs.declared.Error.the-variants.{InvalidPageFormat, TooManyPages}
 use Rattle.memory_layout.specs.declared.Piece.{Piece}
-use Rattle.memory_layout.specs.declared.Piece.the-variants.{Run, Fault}
-use Rattle.memory_layout.specs.declared.MemoryLayout.the-variants.{Pages, Refused}
 use Rattle.memory_layout.specs.Layout.{upTo, endOf, split, starred, pieceOf, pieces}
+use Rattle.memory_layout.specs.declared.MemoryLayout.{MemoryLayout}
 use Rattle.memory_layout.proofs.Scan.{hidden, seen, lead, one-piece, more-pieces, some-pieces}
 
 -- the piece at a place is the part up to the comma
@@ -41,24 +39,24 @@ here s a i e r p h q g =
     judged s a i p h ∙ ap (λ (t : List ℕ). starred (take (i - a) t) (drop (i - a + 1) t) a) (sym (part s a e q)) ∙ sym g
 
 module _ (room : ℕ) (s : List ℕ) (a n : ℕ) where
-  pub no-star : (i : ℕ) → endOf 44 s a ≡ i → i ≤ endOf 42 s a → pieces room (split (drop a s)) a n ≡ Refused (InvalidPageFormat a (i - a))
+  pub no-star : (i : ℕ) → endOf 44 s a ≡ i → i ≤ endOf 42 s a → pieces room (split (drop a s)) a n ≡ MemoryLayout.Refused (Error.InvalidPageFormat a (i - a))
   unfolding pieces pieceOf endOf
   no-star i e h =
       let p = some-pieces (drop a s) in
       let k : length (upTo 44 (drop a s)) ≡ i - a = omega arith in
       rw (p .1, hidden 42 44 (drop a s) (omega arith)) (simp (k, eq-eqb (i - a) (i - a) refl))
 
-  pub fault : (r : Error) → pieceOf (upTo 44 (drop a s)) a ≡ Fault r → pieces room (split (drop a s)) a n ≡ Refused r
+  pub fault : (r : Error) → pieceOf (upTo 44 (drop a s)) a ≡ Piece.Fault r → pieces room (split (drop a s)) a n ≡ MemoryLayout.Refused r
   unfolding pieces
   fault r e = rw (some-pieces (drop a s) .1) (simp e)
 
-  module _ (count size : ℕ) (run : pieceOf (upTo 44 (drop a s)) a ≡ Run count size) where
-    pub full : room < n + count → pieces room (split (drop a s)) a n ≡ Refused TooManyPages
+  module _ (count size : ℕ) (run : pieceOf (upTo 44 (drop a s)) a ≡ Piece.Run count size) where
+    pub full : room < n + count → pieces room (split (drop a s)) a n ≡ MemoryLayout.Refused Error.TooManyPages
     unfolding pieces
     full h = rw (some-pieces (drop a s) .1) (simp (run, lt-ltb room (n + count) h))
 
     module _ (h : n + count ≤ room) where
-      pub last : a ≤ length s → endOf 44 s a ≡ length s → pieces room (split (drop a s)) a n ≡ Pages (n + count)
+      pub last : a ≤ length s → endOf 44 s a ≡ length s → pieces room (split (drop a s)) a n ≡ MemoryLayout.Pages (n + count)
       unfolding pieces endOf
       last l e = rw (one-piece (drop a s) (omega (arith, length-drop a s))) (simp (run, le-ltb room (n + count) h))
 

@@ -13,21 +13,20 @@ use borrow.Author.Tests.{le-leb, lt-leb, lt-ltb, le-ltb, ltb-false}
 use Rattle.ground.specs.Pick.{pick}
 use Rattle.ground.proofs.Tests.{lt-or-ge, above, picked}
 use Rattle.number.specs.declared.Number.{Number}
-use Rattle.number.specs.declared.Number.the-variants.{Value, Bad}
 use Rattle.number.specs.Number.{digitOf, readOn}
 use Rattle.number.proofs.Reading.{go-on}
 
 -- digits to the end, after a value v, with the value tested at the end alone
 unfoldable pub late : List ℕ → ℕ → Number
-late [] v = pick (ltb 4294967295 v) Bad (Value v)
-late (c ∷ cs) v = pick (leb 10 (digitOf c)) Bad (late cs (v * 10 + digitOf c))
+late [] v = pick (ltb 4294967295 v) Number.Bad (Number.Value v)
+late (c ∷ cs) v = pick (leb 10 (digitOf c)) Number.Bad (late cs (v * 10 + digitOf c))
 
 -- a value too large never gets smaller
-pub over : (s : List ℕ) (v : ℕ) → 4294967295 < v → late s v ≡ Bad
+pub over : (s : List ℕ) (v : ℕ) → 4294967295 < v → late s v ≡ Number.Bad
 unfolding late
 over [] v h = simp (lt-ltb 4294967295 v h)
 over (c ∷ cs) v h =
-    picked (λ (r : Number). r ≡ Bad) (leb 10 (digitOf c)) Bad (late cs (v * 10 + digitOf c)) (λ t. refl)
+    picked (λ (r : Number). r ≡ Number.Bad) (leb 10 (digitOf c)) Number.Bad (late cs (v * 10 + digitOf c)) (λ t. refl)
     (λ t. over cs (v * 10 + digitOf c) (omega arith))
 
 -- so the late test answers as the definition's
@@ -36,7 +35,7 @@ unfolding late readOn
 same [] v h = simp (le-ltb 4294967295 v h)
 same (c ∷ cs) v h =
     let w = v * 10 + digitOf c in
-    let e : late cs w ≡ pick (ltb 4294967295 w) Bad (readOn 10 cs w) =
+    let e : late cs w ≡ pick (ltb 4294967295 w) Number.Bad (readOn 10 cs w) =
     ⊎-elim (λ l. over cs w l ∙ simp (lt-ltb 4294967295 w l)) (λ g. same cs w g ∙ simp (le-ltb 4294967295 w g)) (lt-or-ge 4294967295 w) in
     rw e
 
@@ -65,24 +64,24 @@ module _ (c d : ℕ) (e : (d + 48) % 2 ^ 64 ≡ c) where
 
 -- a turn of the loop at a place i, whose digit is x
 module _ (s : List ℕ) (i v x : ℕ) (h : i < length s) (e : x ≡ digitOf (getD s i 0)) where
-  step : late (drop i s) v ≡ pick (leb 10 x) Bad (late (drop (i + 1) s) (v * 10 + x))
+  step : late (drop i s) v ≡ pick (leb 10 x) Number.Bad (late (drop (i + 1) s) (v * 10 + x))
   unfolding late
   step = rw (e, add-one, drop-cons s i 0)
 
-  stops : 10 ≤ x → late (drop i s) v ≡ Bad
+  stops : 10 ≤ x → late (drop i s) v ≡ Number.Bad
   stops p = step ∙ simp (le-leb 10 x p)
 
   goes : x < 10 → late (drop i s) v ≡ late (drop (i + 1) s) (v * 10 + x)
   goes p = step ∙ simp (lt-leb 10 x p)
 
 module _ (s : List ℕ) (i v d : ℕ) (h : i < length s) (e : (d + 48) % 2 ^ 64 ≡ getD s i 0) where
-  pub no-digit : 9 < d → d < 2 ^ 64 → late (drop i s) v ≡ Bad
+  pub no-digit : 9 < d → d < 2 ^ 64 → late (drop i s) v ≡ Number.Bad
   no-digit p k = stops s i v (digitOf (getD s i 0)) h refl (digit-out (getD s i 0) d e p k)
 
   pub next : d ≤ 9 → late (drop i s) v ≡ late (drop (i + 1) s) (v * 10 + d)
   next p = goes s i v d h (digit-in (getD s i 0) d e p) (omega arith)
 
-pub ended : (s : List ℕ) (i v : ℕ) → length s ≤ i → v ≤ 4294967295 → late (drop i s) v ≡ Value v
+pub ended : (s : List ℕ) (i v : ℕ) → length s ≤ i → v ≤ 4294967295 → late (drop i s) v ≡ Number.Value v
 unfolding late
 ended s i v h k = rw (drop-of-length-le s h) (simp (le-ltb 4294967295 v k))
 
@@ -110,13 +109,13 @@ wider zero v w h = h
 wider (suc k) v w h = wider k (v * 10) (w * 10) (omega arith)
 
 -- so many that the value passes the limit
-too-large : (k v : ℕ) (s : List ℕ) → k ≤ length s → 4294967295 < wide k v → late s v ≡ Bad
+too-large : (k v : ℕ) (s : List ℕ) → k ≤ length s → 4294967295 < wide k v → late s v ≡ Number.Bad
 unfolding late
 too-large zero v s h l = over s v l
 too-large (suc k) v [] h l = absurd (omega arith)
 too-large (suc k) v (c ∷ cs) h l =
     let w = v * 10 + digitOf c in
-    picked (λ (r : Number). r ≡ Bad) (leb 10 (digitOf c)) Bad (late cs w) (λ t. refl)
+    picked (λ (r : Number). r ≡ Number.Bad) (leb 10 (digitOf c)) Number.Bad (late cs w) (λ t. refl)
     (λ t. too-large k w cs (omega arith) (omega (arith, l, wider k (v * 10) w (omega arith))))
 
 -- a byte that is no `0` is worth something, and eleven digits from it on are too many
@@ -126,12 +125,12 @@ worth c n =
     picked P (ltb c 48) _ _ (λ t. omega arith)
     (λ t. picked P (leb c 57) _ _ (λ u. let z : c ≡ 48 → ⊥ = n in omega (arith, above {k = 48} {b = c} (ltb-false c 48 t) z)) (λ u. omega (arith, letter c)))
 
-pub eleven : (s : List ℕ) (i : ℕ) → 10 < length s - i → (getD s i 0 ≡ 48 → ⊥) → readOn 10 (drop i s) 0 ≡ Bad
+pub eleven : (s : List ℕ) (i : ℕ) → 10 < length s - i → (getD s i 0 ≡ 48 → ⊥) → readOn 10 (drop i s) 0 ≡ Number.Bad
 unfolding late
 eleven s i h n =
     let c = getD s i 0 in
     let rest = drop (suc i) s in
     sym (same (drop i s) 0 (omega arith))
     ∙ ap (λ (l : List ℕ). late l 0) (drop-cons s i 0 (omega arith))
-    ∙ picked (λ (r : Number). r ≡ Bad) (leb 10 (digitOf c)) Bad (late rest (0 * 10 + digitOf c)) (λ t. refl)
+    ∙ picked (λ (r : Number). r ≡ Number.Bad) (leb 10 (digitOf c)) Number.Bad (late rest (0 * 10 + digitOf c)) (λ t. refl)
     (λ t. too-large 10 (0 * 10 + digitOf c) rest (omega (arith, length-drop (suc i) s)) (omega (arith, worth c n)))

@@ -11,22 +11,22 @@ use lib.Seq.{drop-cons}
 use borrow.Author.Tests.{le-leb, lt-leb, lt-ltb, le-ltb, eq-eqb, ne-eqb}
 use Rattle.ground.specs.Pick.{pick}
 use Rattle.ground.proofs.Lists.{Without}
-use Rattle.number.specs.declared.Number.the-variants.{Value, Bad}
 use Rattle.number.specs.Number.{digitOf, readOn, numberOf}
+use Rattle.number.specs.declared.Number.{Number}
 
-pub at-end : (b : ℕ) (s : List ℕ) (i v : ℕ) → length s ≤ i → readOn b (drop i s) v ≡ Value v
+pub at-end : (b : ℕ) (s : List ℕ) (i v : ℕ) → length s ≤ i → readOn b (drop i s) v ≡ Number.Value v
 unfolding readOn
 at-end b s i v h = rw (drop-of-length-le s h)
 
 module _ (b : ℕ) (s : List ℕ) (i v d : ℕ) (h : i < length s) (e : d ≡ digitOf (getD s i 0)) where
-  step : readOn b (drop i s) v ≡ pick (leb b d) Bad (pick (ltb 4294967295 (v * b + d)) Bad (readOn b (drop (i + 1) s) (v * b + d)))
+  step : readOn b (drop i s) v ≡ pick (leb b d) Number.Bad (pick (ltb 4294967295 (v * b + d)) Number.Bad (readOn b (drop (i + 1) s) (v * b + d)))
   unfolding readOn
   step = rw (e, add-one, drop-cons s i 0)
 
-  pub bad-digit : b ≤ d → readOn b (drop i s) v ≡ Bad
+  pub bad-digit : b ≤ d → readOn b (drop i s) v ≡ Number.Bad
   bad-digit p = step ∙ simp (le-leb b d p)
 
-  pub bad-value : d < b → 4294967295 < v * b + d → readOn b (drop i s) v ≡ Bad
+  pub bad-value : d < b → 4294967295 < v * b + d → readOn b (drop i s) v ≡ Number.Bad
   bad-value p q = step ∙ simp (lt-leb b d p, lt-ltb 4294967295 (v * b + d) q)
 
   pub go-on : d < b → v * b + d ≤ 4294967295 → readOn b (drop i s) v ≡ readOn b (drop (i + 1) s) (v * b + d)
@@ -37,12 +37,12 @@ pub room : (v b : ℕ) → v < 4294967296 → b ≤ 16 → v * b < 68719476736
 room v b h k = omega (arith, mul-le-mul-left v k)
 
 -- the four ways of `numberOf`
-pub num-empty : (b : ℕ) (s : List ℕ) → length s ≡ 0 → numberOf b s ≡ Bad
+pub num-empty : (b : ℕ) (s : List ℕ) → length s ≡ 0 → numberOf b s ≡ Number.Bad
 unfolding numberOf
 num-empty b [] h = refl
 num-empty b (c ∷ cs) h = absurd (omega arith)
 
-pub num-plus-only : (b : ℕ) (s : List ℕ) → getD s 0 0 ≡ 43 → length s ≡ 1 → numberOf b s ≡ Bad
+pub num-plus-only : (b : ℕ) (s : List ℕ) → getD s 0 0 ≡ 43 → length s ≡ 1 → numberOf b s ≡ Number.Bad
 unfolding numberOf
 num-plus-only b [] p h = absurd (omega arith)
 num-plus-only b (c ∷ []) p h = simp (eq-eqb c 43 p)

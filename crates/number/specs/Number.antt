@@ -4,7 +4,6 @@ use mathlib.Core.List.{List, [], _∷_}
 use lib.Dec.{eqb, ltb, leb}
 use Rattle.ground.specs.Pick.{pick}
 use Rattle.number.specs.declared.Number.{Number}
-use Rattle.number.specs.declared.Number.the-variants.{Value, Bad}
 
 -- a byte's value as a digit: 0 to 9, A to F, a to f; 99 for no digit
 abbrev pub digitOf : ℕ → ℕ
@@ -15,16 +14,16 @@ digitOf c =
 
 -- digits to the end, after a value v: each below the base, the value below 2^32 throughout
 unfoldable pub readOn : ℕ → List ℕ → ℕ → Number
-readOn b [] v = Value v
+readOn b [] v = Number.Value v
 readOn b (c ∷ cs) v =
-    pick (leb b (digitOf c)) Bad (pick (ltb 4294967295 (v * b + digitOf c)) Bad (readOn b cs (v * b + digitOf c)))
+    pick (leb b (digitOf c)) Number.Bad (pick (ltb 4294967295 (v * b + digitOf c)) Number.Bad (readOn b cs (v * b + digitOf c)))
 
 -- at least one digit
 abbrev pub some : ℕ → List ℕ → Number
-some b [] = Bad
+some b [] = Number.Bad
 some b (c ∷ cs) = readOn b (c ∷ cs) 0
 
 -- one `+` may stand before the digits
 unfoldable pub numberOf : ℕ → List ℕ → Number
-numberOf b [] = Bad
+numberOf b [] = Number.Bad
 numberOf b (c ∷ cs) = pick (eqb c 43) (some b cs) (readOn b (c ∷ cs) 0)

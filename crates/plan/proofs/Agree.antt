@@ -1,5 +1,5 @@
 -- The papers' covering pages and their block count are ours. Assumes nothing.
-use Prim.Native.Nat.{ℕ, zero, suc, _+_, _-_, _*_, _/_, _%_, _<_, _≤_, min}
+use Prim.Native.Nat.{ℕ, zero, suc, _+_, _-_, _*_, _/_, _%_, _<_, min}
 use native.Mathlib.Nat.{mod-lt, div-add-mod'}
 use native.Mathlib.Omega.{arith}
 use mathlib.Core.Path.{_≡_, refl, ap, sym, _∙_}
@@ -8,10 +8,10 @@ use mathlib.Core.List.{List, [], _∷_}
 use lib.Dec.{eqb, ltb}
 use borrow.Author.Tests.{eqb-true, eqb-false, ltb-true, ltb-false}
 use Rattle.ground.specs.Pick.{pick}
+use Rattle.papers.specs.Plan.{leading, pagesFor, blocksFor}
 use Rattle.work.specs.Work.{blockCount}
 use Rattle.work.proofs.Fills.{blockCount-sizeless, blockCount-zero, blockCount-fill}
 use Rattle.download.specs.Download.{covering}
-use Rattle.papers.specs.Plan.{leading, pagesFor, blocksFor}
 use Rattle.plan.proofs.Pages.{covering-zero, covering-more}
 
 -- pages from a place on: those that cover what is left of the target there

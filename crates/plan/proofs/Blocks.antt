@@ -5,9 +5,9 @@ use mathlib.Core.Path.{_≡_, ap, sym, _∙_}
 use mathlib.Core.List.{List, _++_}
 use lib.ListN.{length, drop, take-append-drop, drop-of-length-le}
 use lib.Seq.{drop-drop}
+use Rattle.papers.specs.Plan.{several, bytesOf, blocksFor, joined}
 use Rattle.work.specs.Work.{blockCount}
 use Rattle.work.proofs.Fills.{blockCount-none, blockCount-next}
-use Rattle.papers.specs.Plan.{several, bytesOf, blocksFor, joined}
 use Rattle.plan.proofs.Agree.{blocks-agree}
 
 -- the blocks' bytes from the i-th on are the firmware from there on: each byte once, in order

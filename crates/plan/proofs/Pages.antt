@@ -4,8 +4,8 @@ use mathlib.Core.Path.{_≡_, refl, ap}
 use mathlib.Core.List.{List, [], _∷_, _++_}
 use native.Mathlib.Omega.{arith}
 use lib.ListN.{length, take, drop}
-use Rattle.download.specs.Download.{covering}
 use Rattle.papers.specs.Plan.{sum}
+use Rattle.download.specs.Download.{covering}
 
 -- nothing is erased for a target of 0 bytes; otherwise the first page, and then those for what is left
 pub covering-zero : (ps : List ℕ) → covering 0 ps ≡ []

@@ -6,33 +6,33 @@ use mathlib.Core.List.{List, [], _∷_}
 use native.Mathlib.Omega.{arith}
 use Rattle.ground.specs.Bytes.{bytesLow}
 use Rattle.ground.specs.declared.Version.{Version}
-use Rattle.functional_descriptor.specs.declared.FunctionalDescriptor.{FunctionalDescriptor}
-use Rattle.protocol.specs.declared.DfuProtocol.{DfuProtocol}
-use Rattle.wire.specs.declared.Command.the-variants.{Erase, SetAddress, Block, Empty}
-use Rattle.wire.specs.declared.Request.the-variants.{GetStatus, ClearStatus, Command as Sends}
-use Rattle.start.specs.declared.Override.{Override}
-use Rattle.wire.specs.Wire.{wireOf, filledFor, requestData}
-use Rattle.start.specs.Start.{beginOf}
-use Rattle.plan.specs.Sent.{carried, taken}
 use Rattle.papers.specs.Requests.{DFU_DNLOAD, DFU_GETSTATUS, DFU_CLRSTATUS}
 use Rattle.papers.specs.Dfuse.{fourBytes, eraseCommand, setAddressCommand}
+use Rattle.functional_descriptor.specs.declared.FunctionalDescriptor.{FunctionalDescriptor}
+use Rattle.protocol.specs.declared.DfuProtocol.{DfuProtocol}
+use Rattle.wire.specs.Wire.{wireOf, filledFor, requestData}
+use Rattle.wire.specs.declared.Command.{Command}
+use Rattle.wire.specs.declared.Request.{Request}
+use Rattle.start.specs.declared.Override.{Override}
+use Rattle.start.specs.Start.{beginOf}
+use Rattle.plan.specs.Sent.{carried, taken}
 
-pub status-agrees : taken (wireOf GetStatus) ≡ DFU_GETSTATUS
+pub status-agrees : taken (wireOf Request.GetStatus) ≡ DFU_GETSTATUS
 status-agrees = refl
 
-pub clear-agrees : carried (wireOf ClearStatus) ≡ DFU_CLRSTATUS
+pub clear-agrees : carried (wireOf Request.ClearStatus) ≡ DFU_CLRSTATUS
 clear-agrees = refl
 
-pub block-agrees : (n f m : ℕ) → carried (wireOf (Sends (Block n f m))) ≡ DFU_DNLOAD n m
+pub block-agrees : (n f m : ℕ) → carried (wireOf (Request.Command (Command.Block n f m))) ≡ DFU_DNLOAD n m
 block-agrees n f m = refl
 
-pub empty-agrees : (n : ℕ) → carried (wireOf (Sends (Empty n))) ≡ DFU_DNLOAD n 0
+pub empty-agrees : (n : ℕ) → carried (wireOf (Request.Command (Command.Empty n))) ≡ DFU_DNLOAD n 0
 empty-agrees n = refl
 
-pub erase-agrees : (a : ℕ) → carried (wireOf (Sends (Erase a))) ≡ DFU_DNLOAD 0 5
+pub erase-agrees : (a : ℕ) → carried (wireOf (Request.Command (Command.Erase a))) ≡ DFU_DNLOAD 0 5
 erase-agrees a = refl
 
-pub address-agrees : (a : ℕ) → carried (wireOf (Sends (SetAddress a))) ≡ DFU_DNLOAD 0 5
+pub address-agrees : (a : ℕ) → carried (wireOf (Request.Command (Command.SetAddress a))) ≡ DFU_DNLOAD 0 5
 address-agrees a = refl
 
 -- the command bytes that a call fills, handed back as the request's data, are the paper's command
@@ -44,10 +44,10 @@ four a =
     ap (λ (x : ℕ). a % 256 ∷ a / 256 % 256 ∷ x % 256 ∷ a / 256 / 256 / 256 % 256 ∷ []) c
     ∙ ap (λ (x : ℕ). a % 256 ∷ a / 256 % 256 ∷ a / 65536 % 256 ∷ x % 256 ∷ []) d
 
-pub erase-command : (a : ℕ) (fw cmd : List ℕ) → requestData (Sends (Erase a)) fw (filledFor (Sends (Erase a)) cmd) ≡ eraseCommand a
+pub erase-command : (a : ℕ) (fw cmd : List ℕ) → requestData (Request.Command (Command.Erase a)) fw (filledFor (Request.Command (Command.Erase a)) cmd) ≡ eraseCommand a
 erase-command a fw cmd = rw (four a)
 
-pub address-command : (a : ℕ) (fw cmd : List ℕ) → requestData (Sends (SetAddress a)) fw (filledFor (Sends (SetAddress a)) cmd) ≡ setAddressCommand a
+pub address-command : (a : ℕ) (fw cmd : List ℕ) → requestData (Request.Command (Command.SetAddress a)) fw (filledFor (Request.Command (Command.SetAddress a)) cmd) ≡ setAddressCommand a
 address-command a fw cmd = rw (four a)
 
 -- no answer depends on the download and upload bits, the detach timeout or the version: start reads none of them

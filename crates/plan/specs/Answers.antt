@@ -2,12 +2,10 @@
 use mathlib.Core.List.{[], _∷_}
 use Rattle.get_status.specs.Names.{stateByte}
 use Rattle.get_status.specs.declared.State.{State}
-use Rattle.get_status.specs.declared.State.the-variants.{DfuIdle}
 use Rattle.work.specs.Work.{wholeOf}
-use Rattle.session.specs.Told.{Answer, count, reply, waited, wasReset, failed}
-use Rattle.work.specs.declared.Wait.the-variants.{Pause, Poll}
+use Rattle.work.specs.declared.Wait.{Wait}
 use Rattle.machine.specs.declared.Phase.{Phase}
-use Rattle.machine.specs.declared.Phase.the-variants.{First, Clear, Second, Sent, Waiting, Resetting, Finished, Refused}
+use Rattle.session.specs.Told.{Answer, count, reply, waited, wasReset, failed}
 
 -- an answer that isn't a reply
 abbrev pub Unreplied : Answer → Type 0
@@ -23,12 +21,12 @@ showing st = reply (0 ∷ 0 ∷ 0 ∷ 0 ∷ stateByte st ∷ 0 ∷ [])
 
 -- idle in the opening, a full count, the target of a wait, the reset done; an ended session may be told anything
 abbrev pub ideal : Phase → Answer
-ideal First = showing DfuIdle
-ideal Clear = count 0
-ideal Second = showing DfuIdle
-ideal (Sent c) = count (wholeOf c)
-ideal (Waiting (Pause b t ms)) = waited
-ideal (Waiting (Poll b t)) = showing t
-ideal Resetting = wasReset
-ideal (Finished e) = waited
-ideal (Refused e) = waited
+ideal Phase.First = showing State.DfuIdle
+ideal Phase.Clear = count 0
+ideal Phase.Second = showing State.DfuIdle
+ideal (Phase.Sent c) = count (wholeOf c)
+ideal (Phase.Waiting (Wait.Pause b t ms)) = waited
+ideal (Phase.Waiting (Wait.Poll b t)) = showing t
+ideal Phase.Resetting = wasReset
+ideal (Phase.Finished e) = waited
+ideal (Phase.Refused e) = waited

@@ -3,17 +3,17 @@ use Prim.Native.Nat.{ℕ}
 use mathlib.Core.Path.{_≡_}
 use mathlib.Core.List.{List, []}
 use lib.ListN.{length}
-use Rattle.protocol.specs.declared.DfuProtocol.{DfuProtocol}
-use Rattle.wire.specs.declared.Command.{Command}
-use Rattle.wire.specs.declared.Request.the-variants.{Command as Commands}
-use Rattle.session.specs.declared.Session.{Session}
-use Rattle.wire.specs.declared.Control.{Control}
-use Rattle.start.specs.declared.DfuSansIo.{DfuSansIo}
-use Rattle.start.specs.declared.Started.the-variants.{Session as Begun}
-use Rattle.wire.specs.Wire.{wireOf, filledFor, requestData}
-use Rattle.start.specs.Start.{dfuseb, targetOf, beginOf}
 use Rattle.papers.specs.Requests.{SetupPacket, packet}
 use Rattle.papers.specs.Plan.{Dnload, plan}
+use Rattle.protocol.specs.declared.DfuProtocol.{DfuProtocol}
+use Rattle.wire.specs.declared.Command.{Command}
+use Rattle.wire.specs.declared.Control.{Control}
+use Rattle.wire.specs.Wire.{wireOf, filledFor, requestData}
+use Rattle.wire.specs.declared.Request.{Request}
+use Rattle.session.specs.declared.Session.{Session}
+use Rattle.start.specs.declared.DfuSansIo.{DfuSansIo}
+use Rattle.start.specs.Start.{dfuseb, targetOf, beginOf}
+use Rattle.start.specs.declared.Started.{Started}
 
 -- our control transfers as setup packets: with the bytes that they carry, with the bytes that they take
 abbrev pub carried : Control → SetupPacket
@@ -24,7 +24,7 @@ taken c = packet (c .«request_type») (c .request) (c .value) (c .takes)
 
 -- a download request: its packet, and the bytes that `data` hands over for it
 abbrev pub onWire : List ℕ → Command → Dnload
-onWire firmware c = record { setup = carried (wireOf (Commands c)); bytes = requestData (Commands c) firmware (filledFor (Commands c) []) }
+onWire firmware c = record { setup = carried (wireOf (Request.Command c)); bytes = requestData (Request.Command c) firmware (filledFor (Request.Command c) []) }
 
 -- the papers' requests for start's own arguments
 abbrev pub planOf : DfuSansIo → DfuProtocol → List ℕ → List ℕ → List Dnload
@@ -32,4 +32,4 @@ planOf io p firmware pages = plan (dfuseb p) (targetOf p (io .«override_address
 
 -- start begins a session, or has finished it at once
 abbrev pub Begins : DfuSansIo → DfuProtocol → List ℕ → List ℕ → ℕ → Session → Type 0
-Begins io p firmware pages budget s = beginOf io p (length firmware) (length pages) budget ≡ Begun s
+Begins io p firmware pages budget s = beginOf io p (length firmware) (length pages) budget ≡ Started.Session s

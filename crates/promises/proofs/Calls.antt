@@ -4,34 +4,26 @@ use mathlib.Core.Path.{_≡_, refl, ap, sym, subst, _∙_}
 use mathlib.Core.Bool.{Bool, false, true≢false}
 use mathlib.Core.List.{List, [], _∷_, _++_}
 use lib.ListN.{length}
-use Rattle.ground.specs.Pick.{pick}
 use Rattle.ground.proofs.Tests.{picked}
 use Rattle.machine.specs.Machine.{asksAt, liveb}
-use Rattle.session.specs.Told.{Answer, told}
-use Rattle.download.specs.Download.{download}
 use Rattle.session.specs.Calls.{asAtStart, guardOf, through, called, Outcome, out, filled, callOf}
-use Rattle.work.specs.declared.Error.the-variants.{NotAsAtStart}
 use Rattle.session.specs.declared.Guard.{Guard}
-use Rattle.session.specs.declared.Guard.the-variants.{Open, Shut}
-use Rattle.machine.specs.declared.Phase.{Phase}
-use Rattle.machine.specs.declared.Phase.the-variants.{First, Clear, Second, Sent, Waiting, Resetting, Finished, Refused}
-use Rattle.session.specs.declared.Session.{Session}
-use Rattle.machine.specs.declared.Ask.the-variants.{Refused as SaysNo}
+use Rattle.plan.proofs.Unfilled.{ended-fills}
+use Rattle.promises.specs.Words.{pick, Error, download, Phase, Ask, Session, Answer, told}
 use Rattle.promises.specs.Run.{Event, sentBy, World, tell, transfers}
 use Rattle.promises.specs.Calls.{Call, outcome, heardThrough, call, calls, Allowed, Repeats}
-use Rattle.plan.proofs.Unfilled.{ended-fills}
 use Rattle.promises.proofs.Spends.{tell-adds}
 
 -- an ended session asks for nothing
 ended-silent : (p : Phase) → liveb p ≡ false → sentBy (asksAt p) ≡ []
-ended-silent First e = absurd (true≢false e)
-ended-silent Clear e = absurd (true≢false e)
-ended-silent Second e = absurd (true≢false e)
-ended-silent (Sent c) e = absurd (true≢false e)
-ended-silent (Waiting x) e = absurd (true≢false e)
-ended-silent Resetting e = absurd (true≢false e)
-ended-silent (Finished x) e = refl
-ended-silent (Refused x) e = refl
+ended-silent Phase.First e = absurd (true≢false e)
+ended-silent Phase.Clear e = absurd (true≢false e)
+ended-silent Phase.Second e = absurd (true≢false e)
+ended-silent (Phase.Sent c) e = absurd (true≢false e)
+ended-silent (Phase.Waiting x) e = absurd (true≢false e)
+ended-silent Phase.Resetting e = absurd (true≢false e)
+ended-silent (Phase.Finished x) e = refl
+ended-silent (Phase.Refused x) e = refl
 
 -- what holds of the told answer, and of the world as it was, holds of a call
 pub call-picked : (P : World → Type 0) (x : World) (c : Call) → P (tell (download (c .pages)) x (c .answer)) → P x → P (call x c)
@@ -65,7 +57,7 @@ spend x more n v =
 pub ended-answers : (s : Session) (c : Call) → liveb (s .phase) ≡ false → outcome s c ≡ out (record { next = s; says = asksAt (s .phase) }) (c .command)
 unfolding callOf called guardOf
 ended-answers s c e =
-    ap (λ (b : Bool). filled (through (pick b (pick (asAtStart (s .setup) (length (c .firmware)) (length (c .pages)) (length (c .command))) Open (Shut (SaysNo NotAsAtStart))) (Shut (asksAt (s .phase)))) s (told (download (c .pages)) s (c .answer))) (c .command)) e
+    ap (λ (b : Bool). filled (through (pick b (pick (asAtStart (s .setup) (length (c .firmware)) (length (c .pages)) (length (c .command))) Guard.Open (Guard.Shut (Ask.Refused Error.NotAsAtStart))) (Guard.Shut (asksAt (s .phase)))) s (told (download (c .pages)) s (c .answer))) (c .command)) e
     ∙ ap (λ (x : List ℕ). out (record { next = s; says = asksAt (s .phase) }) x) (ended-fills (s .phase) (c .command) e)
 
 pub ended-stays : (s : Session) (more : List Call) (os : List Outcome) → liveb (s .phase) ≡ false → Allowed s more os

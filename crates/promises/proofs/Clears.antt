@@ -7,21 +7,10 @@ use mathlib.Core.List.{List}
 use lib.Dec.{eqb}
 use lib.ListN.{length}
 use Rattle.ground.proofs.Tests.{picked}
-use Rattle.protocol.specs.declared.DfuProtocol.{DfuProtocol}
-use Rattle.work.specs.Work.{Work, waitAfter}
-use Rattle.session.specs.Told.{Answer}
-use Rattle.download.specs.Download.{download}
-use Rattle.start.specs.Start.{setupOf}
-use Rattle.wire.specs.declared.Command.{Command}
-use Rattle.wire.specs.declared.Command.the-variants.{Erase, SetAddress, Block, Empty}
-use Rattle.work.specs.declared.Progress.{Progress}
-use Rattle.work.specs.declared.Setup.{Setup}
-use Rattle.session.specs.declared.Session.{Session}
-use Rattle.work.specs.declared.Todo.{Todo}
-use Rattle.work.specs.declared.Todo.the-variants.{Send, End as Ends, Refuse}
-use Rattle.start.specs.declared.DfuSansIo.{DfuSansIo}
-use Rattle.promises.specs.Run.{Event, opened, after, cleared}
+use Rattle.work.specs.Work.{waitAfter}
 use Rattle.plan.specs.Sent.{Begins}
+use Rattle.promises.specs.Words.{DfuProtocol, Command, Setup, Progress, Todo, Work, download, Session, Answer, DfuSansIo, setupOf}
+use Rattle.promises.specs.Run.{Event, opened, after, cleared}
 use Rattle.promises.proofs.Walk.{Claims, Holds, Wished, WaitingAt, Good, run-always, either-end}
 use Rattle.promises.proofs.Started.{started}
 
@@ -41,16 +30,16 @@ once = record {
 
 module _ (w : Work) (su : Setup) where
   waits : (c : Command) (n : ℕ) (pr : Progress) (l : ℕ) (h : List Event) → cleared h ≤ 1 → WaitingAt w su once (waitAfter su c n) pr l h
-  waits (Erase a) k pr l h v = v
-  waits (SetAddress a) k pr l h v = v
-  waits (Block n f m) k pr l h v = v
-  waits (Empty n) k pr l h v = v
+  waits (Command.Erase a) k pr l h v = v
+  waits (Command.SetAddress a) k pr l h v = v
+  waits (Command.Block n f m) k pr l h v = v
+  waits (Command.Empty n) k pr l h v = v
 
   wished : (pr : Progress) (l : ℕ) (h : List Event) (t : Todo) → cleared h ≤ 1 → Wished w su once pr l h t
   unfolding cleared
-  wished pr l h (Send c then) v = λ m e. (v, λ n f. waits c n (w .took su then c n) m _ v)
-  wished pr l h (Ends e) v = either-end w su once pr l h e v v
-  wished pr l h (Refuse e) v = v
+  wished pr l h (Todo.Send c then) v = λ m e. (v, λ n f. waits c n (w .took su then c n) m _ v)
+  wished pr l h (Todo.End e) v = either-end w su once pr l h e v v
+  wished pr l h (Todo.Refuse e) v = v
 
   holds : Holds w su once
   unfolding cleared

@@ -3,14 +3,11 @@ use Prim.Native.Nat.{ℕ, _+_, _<_, _≤_}
 use mathlib.Core.Path.{_≡_, ap, sym, subst, _∙_}
 use mathlib.Core.List.{List, _++_, map}
 use lib.ListN.{length}
-use Rattle.protocol.specs.declared.DfuProtocol.{DfuProtocol}
-use Rattle.download.specs.Download.{download}
-use Rattle.session.specs.declared.Session.{Session}
-use Rattle.start.specs.declared.DfuSansIo.{DfuSansIo}
 use Rattle.papers.specs.Plan.{Dnload}
+use Rattle.plan.specs.Sent.{onWire, planOf, Begins}
+use Rattle.promises.specs.Words.{DfuProtocol, download, Session, DfuSansIo}
 use Rattle.promises.specs.Run.{World, opened, after, transfers, commanded, cleared, Over}
 use Rattle.promises.specs.Calls.{Call, calls, passed, AllPass}
-use Rattle.plan.specs.Sent.{onWire, planOf, Begins}
 use Rattle.promises.specs.Whole.{Listed}
 use Rattle.promises.specs.Fair.{heeded, Fair, Ready, requestsOf, bound}
 use Rattle.promises.specs.Finish.{Finishes}

@@ -1,64 +1,49 @@
 -- How a run ends: as its work says that it ends. Assumes nothing.
-use Prim.Native.Nat.{ℕ}
+use Prim.Native.Nat.{ℕ, _+_}
 use mathlib.Core.Path.{_≡_, refl, ap, _∙_}
-use mathlib.Core.List.{List, [], _∷_}
+use mathlib.Core.List.{List}
 use lib.Dec.{ltb}
 use lib.ListN.{length, getD}
-use Prim.Native.Nat.{_+_}
 use Rattle.ground.proofs.Tests.{picked}
-use Rattle.work.specs.Work.{Work, limit, endOf}
-use Rattle.session.specs.Told.{Answer, mk}
-use Rattle.download.specs.Download.{endFor, eraseNext, writeNext, nextAt, nextOf, download}
-use Rattle.work.specs.declared.End.{End}
-use Rattle.work.specs.declared.End.the-variants.{Stays, Reset}
-use Rattle.machine.specs.declared.Phase.the-variants.{First, Finished}
-use Rattle.work.specs.declared.Progress.{Progress}
-use Rattle.work.specs.declared.Setup.{Setup}
-use Rattle.work.specs.declared.Stage.{Stage}
-use Rattle.work.specs.declared.Stage.the-variants.{Erasing, Writing, Ending}
-use Rattle.work.specs.declared.Todo.{Todo}
-use Rattle.work.specs.declared.Todo.the-variants.{Send, End as Ends, Refuse}
-use Rattle.promises.specs.Run.{Event, opened, after, Over}
+use Rattle.work.specs.Work.{limit, endOf}
+use Rattle.download.specs.Download.{endFor, eraseNext, writeNext, nextAt, nextOf}
+use Rattle.promises.specs.Words.{Setup, Progress, Stage, Todo, End, Work, download, Phase, Answer, mk}
+use Rattle.promises.specs.Run.{opened, after, Over}
+use Rattle.promises.specs.Finish.{EndsAs}
 use Rattle.promises.proofs.Walk.{Claims, Holds, run-over}
 use Rattle.promises.proofs.Lasting.{lasting, lasting-holds, OfWish, unit-waits}
 
--- a work that ends in one way
-abbrev pub EndsAs : End → Todo → Type 0
-EndsAs x (Send c then) = Unit
-EndsAs x (Ends e) = e ≡ x
-EndsAs x (Refuse e) = Unit
-
 abbrev ending : End → Claims
-ending x = lasting (λ b t. Unit) (Reset ≡ x) (λ e. e ≡ x) (λ e. Unit)
+ending x = lasting (λ b t. Unit) (End.Reset ≡ x) (λ e. e ≡ x) (λ e. Unit)
 
-wish : (x : End) (t : Todo) → EndsAs x t → OfWish (λ b t. Unit) (Reset ≡ x) (λ e. e ≡ x) (λ e. Unit) t
-wish x (Send c then) v = tt
-wish x (Ends Stays) v = v
-wish x (Ends Reset) v = v
-wish x (Refuse e) v = tt
+wish : (x : End) (t : Todo) → EndsAs x t → OfWish (λ b t. Unit) (End.Reset ≡ x) (λ e. e ≡ x) (λ e. Unit) t
+wish x (Todo.Send c then) v = tt
+wish x (Todo.End End.Stays) v = v
+wish x (Todo.End End.Reset) v = v
+wish x (Todo.Refuse e) v = tt
 
 module _ (w : Work) (su : Setup) (x : End) (law : (pr : Progress) → EndsAs x (w .next su pr)) where
   holds : Holds w su (ending x)
   holds = lasting-holds _ _ _ _ w su (record { waits = unit-waits su; reset = λ v. v; wishes = λ pr. wish x (w .next su pr) (law pr); denies = λ e d. tt })
 
   -- THE END of a run that was begun
-  pub ends-so : (pr : Progress) (l : ℕ) (more : List Answer) → Over ((after w (opened (mk su pr l First)) more) .session .phase)
-      → (after w (opened (mk su pr l First)) more) .session .phase ≡ Finished x
+  pub ends-so : (pr : Progress) (l : ℕ) (more : List Answer) → Over ((after w (opened (mk su pr l Phase.First)) more) .session .phase)
+      → (after w (opened (mk su pr l Phase.First)) more) .session .phase ≡ Phase.Finished x
   ends-so pr l more o =
-      let (e, p, q) = run-over w su (ending x) holds (opened (mk su pr l First)) more (record { setup = refl; holds = tt }) o in
-      p ∙ ap Finished q
+      let (e, p, q) = run-over w su (ending x) holds (opened (mk su pr l Phase.First)) more (record { setup = refl; holds = tt }) o in
+      p ∙ ap Phase.Finished q
 
 -- a download: the device stays if it is tolerant or will detach, else after the reset
 ends-at : (st : Stage) (ps : List ℕ) (su : Setup) (pr : Progress) → EndsAs (endFor su) (nextAt st ps su pr)
 unfolding eraseNext writeNext
-ends-at Erasing ps su pr =
+ends-at Stage.Erasing ps su pr =
     picked (EndsAs (endFor su)) (ltb (pr .erased) (endOf su)) _ _
     (λ e. picked (EndsAs (endFor su)) (ltb (pr .page) (length ps)) _ _
     (λ f. picked (EndsAs (endFor su)) (ltb (pr .erased + getD ps (pr .page) 0) limit) _ _ (λ g. tt) (λ g. tt))
     (λ f. tt))
     (λ e. tt)
-ends-at Writing ps su pr = picked (EndsAs (endFor su)) (ltb (pr .accepted) (su .length)) _ _ (λ e. tt) (λ e. tt)
-ends-at Ending ps su pr = refl
+ends-at Stage.Writing ps su pr = picked (EndsAs (endFor su)) (ltb (pr .accepted) (su .length)) _ _ (λ e. tt) (λ e. tt)
+ends-at Stage.Ending ps su pr = refl
 
 pub download-ends : (ps : List ℕ) (su : Setup) (pr : Progress) → EndsAs (endFor su) (nextOf ps su pr)
 unfolding nextOf

@@ -6,30 +6,24 @@ use mathlib.Core.List.{List}
 use lib.Dec.{ltb}
 use lib.ListN.{length}
 use Rattle.ground.proofs.Tests.{picked}
-use Rattle.protocol.specs.declared.DfuProtocol.{DfuProtocol}
-use Rattle.session.specs.Told.{Answer, mk}
-use Rattle.download.specs.Download.{download}
-use Rattle.start.specs.Start.{dfuseb, overb, manyb, setupOf, fresh}
-use Rattle.machine.specs.declared.Phase.the-variants.{First}
-use Rattle.session.specs.declared.Session.{Session}
-use Rattle.start.specs.declared.DfuSansIo.{DfuSansIo}
+use Rattle.start.specs.Start.{dfuseb, overb, manyb}
 use Rattle.plan.specs.Sent.{Begins}
+use Rattle.budget.specs.Enough.{enoughFor, enoughOf}
+use Rattle.budget.specs.declared.Suffices.{Suffices}
+use Rattle.promises.specs.Words.{DfuProtocol, download, Phase, Session, Answer, mk, DfuSansIo, setupOf, fresh}
 use Rattle.promises.specs.Fair.{heeded, Fair, Ready, requestsOf}
 use Rattle.promises.specs.Finish.{Finishes}
 use Rattle.promises.proofs.Clears.{clears-once}
 use Rattle.promises.proofs.Finish.{starts, finishes}
-use Rattle.budget.specs.Enough.{enoughFor, enoughOf}
-use Rattle.budget.specs.declared.Suffices.{Suffices}
-use Rattle.budget.specs.declared.Suffices.the-variants.{Budget, Never}
 
-never-budget : {n : ℕ} → Never ≡ Budget n → ⊥
+never-budget : {n : ℕ} → Suffices.Never ≡ Suffices.Budget n → ⊥
 never-budget e = let z : _≡_ {A = ℕ} 0 1 = cc in omega arith
 
-budget-is : {m n : ℕ} → Budget m ≡ Budget n → m ≡ n
+budget-is : {m n : ℕ} → Suffices.Budget m ≡ Suffices.Budget n → m ≡ n
 budget-is e = cc
 
 -- what is answered is the number
-answered : (io : DfuSansIo) (p : DfuProtocol) (fw ps : List ℕ) (k n : ℕ) → enoughOf io p (length fw) ps k ≡ Budget n → enoughFor (requestsOf io p fw ps) k ≡ n
+answered : (io : DfuSansIo) (p : DfuProtocol) (fw ps : List ℕ) (k n : ℕ) → enoughOf io p (length fw) ps k ≡ Suffices.Budget n → enoughFor (requestsOf io p fw ps) k ≡ n
 unfolding enoughOf
 answered io p fw ps k n =
     picked P (ltb 4294967295 (length fw)) _ _ (λ e z. absurd (never-budget z))
@@ -38,18 +32,18 @@ answered io p fw ps k n =
     (λ h. picked P (ltb (enoughFor (requestsOf io p fw ps) k) (2 ^ 64)) _ _ (λ g z. budget-is z) (λ g z. absurd (never-budget z)))))
   where
     P : Suffices → Type 0
-    P x = x ≡ Budget n → enoughFor (requestsOf io p fw ps) k ≡ n
+    P x = x ≡ Suffices.Budget n → enoughFor (requestsOf io p fw ps) k ≡ n
 
 -- ENOUGH SUFFICES: start begins with it, and every fair run with it or more finishes
 module _ (io : DfuSansIo) (p : DfuProtocol) (fw ps : List ℕ) (k n : ℕ) where
-  pub enough-starts : enoughOf io p (length fw) ps k ≡ Budget n → Ready io p fw ps → (s : Session) × Begins io p fw ps n s
+  pub enough-starts : enoughOf io p (length fw) ps k ≡ Suffices.Budget n → Ready io p fw ps → (s : Session) × Begins io p fw ps n s
   enough-starts e r = by n (answered io p fw ps k n e)
     where
       by : (n : ℕ) → enoughFor (requestsOf io p fw ps) k ≡ n → (s : Session) × Begins io p fw ps n s
       by zero z = absurd (omega (arith, z))
-      by (suc l) z = (mk (setupOf io p (length fw) (length ps)) (fresh (setupOf io p (length fw) (length ps))) l First, starts io p fw ps r l)
+      by (suc l) z = (mk (setupOf io p (length fw) (length ps)) (fresh (setupOf io p (length fw) (length ps))) l Phase.First, starts io p fw ps r l)
 
-  pub enough-suffices : (budget : ℕ) (s : Session) (more : List Answer) → enoughOf io p (length fw) ps k ≡ Budget n → n ≤ budget → Ready io p fw ps
+  pub enough-suffices : (budget : ℕ) (s : Session) (more : List Answer) → enoughOf io p (length fw) ps k ≡ Suffices.Budget n → n ≤ budget → Ready io p fw ps
       → Begins io p fw ps budget s → Fair k 0 (download ps) s (heeded (download ps) s more) → Finishes k io p fw ps s more
   enough-suffices budget s more e m r b f =
       finishes io p fw ps k budget s more r b f (omega (arith, clears-once io p fw ps budget s more b, answered io p fw ps k n e, m))

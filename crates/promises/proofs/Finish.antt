@@ -1,5 +1,5 @@
 -- With a fair device and the budget an update finishes. Assumes nothing.
-use Prim.Native.Nat.{ℕ, suc, _+_, _*_, _<_, _≤_}
+use Prim.Native.Nat.{ℕ, suc, _<_, _≤_}
 use native.Mathlib.Omega.{arith}
 use mathlib.Core.Path.{_≡_, refl, ap, sym, subst, _∙_}
 use mathlib.Core.Bool.{Bool, false}
@@ -8,33 +8,28 @@ use lib.Dec.{eqb, ltb}
 use lib.ListN.{length, length-map}
 use borrow.Author.Tests.{le-ltb, lt-leb, ne-eqb}
 use Rattle.ground.proofs.Tests.{picked}
-use Rattle.protocol.specs.declared.DfuProtocol.{DfuProtocol}
-use Rattle.work.specs.Work.{Work, limit, endOf}
-use Rattle.session.specs.Told.{Answer, mk}
-use Rattle.download.specs.Download.{download, endFor}
-use Rattle.start.specs.Start.{dfuseb, setupOf, fresh, nothingb, beyondb, overb, manyb, begunOf, beginOf}
-use Rattle.machine.specs.declared.Phase.the-variants.{First}
-use Rattle.work.specs.declared.Setup.{Setup}
-use Rattle.session.specs.declared.Session.{Session}
-use Rattle.start.specs.declared.DfuSansIo.{DfuSansIo}
 use Rattle.papers.proofs.Count.{plan-length}
-use Rattle.promises.specs.Run.{opened, after, transfers, cleared}
+use Rattle.work.specs.Work.{limit, endOf}
+use Rattle.download.specs.Download.{endFor}
+use Rattle.start.specs.Start.{dfuseb, nothingb, beyondb, overb, manyb, begunOf, beginOf}
 use Rattle.plan.specs.Sent.{onWire, Begins}
+use Rattle.promises.specs.Words.{DfuProtocol, Setup, Work, download, Phase, Session, Answer, mk, told, DfuSansIo, setupOf, fresh}
+use Rattle.promises.specs.Run.{opened, after, transfers, cleared}
 use Rattle.promises.specs.Fair.{heeded, Fair, Ready, requestsOf, bound}
-use Rattle.promises.specs.Finish.{Finishes}
+use Rattle.promises.specs.Finish.{FinishesIn, Finishes}
 use Rattle.promises.proofs.Started.{begun}
 use Rattle.promises.proofs.Wanted.{left, wanted, fresh-wanted}
 use Rattle.promises.proofs.Onwire.{wanted-plan}
 use Rattle.promises.proofs.Roomy.{room, thrives, fresh-room}
 use Rattle.promises.proofs.Ends.{download-ends}
-use Rattle.promises.proofs.Any.{FinishesIn, any-finishes}
+use Rattle.promises.proofs.Any.{any-finishes}
 
 module _ (io : DfuSansIo) (p : DfuProtocol) (fw ps : List ℕ) where
   abbrev su : Setup
   su = setupOf io p (length fw) (length ps)
 
   -- START BEGINS
-  pub starts : Ready io p fw ps → (l : ℕ) → Begins io p fw ps (suc l) (mk su (fresh su) l First)
+  pub starts : Ready io p fw ps → (l : ℕ) → Begins io p fw ps (suc l) (mk su (fresh su) l Phase.First)
   unfolding beginOf begunOf
   starts r l =
       let e₁ : ltb 4294967295 (length fw) ≡ false = le-ltb _ _ (r .short) in
@@ -73,15 +68,13 @@ module _ (io : DfuSansIo) (p : DfuProtocol) (fw ps : List ℕ) where
       (sym e)
       (λ f m. from l z f m)
     where
-      from : (l : ℕ) → budget ≡ suc l → Fair k 0 (download ps) (mk su (fresh su) l First) (heeded (download ps) (mk su (fresh su) l First) more)
-          → bound k (cleared ((after (download ps) (opened (mk su (fresh su) l First)) more) .past)) (requestsOf io p fw ps) ≤ budget
-          → Finishes k io p fw ps (mk su (fresh su) l First) more
+      from : (l : ℕ) → budget ≡ suc l → Fair k 0 (download ps) (mk su (fresh su) l Phase.First) (heeded (download ps) (mk su (fresh su) l Phase.First) more)
+          → bound k (cleared ((after (download ps) (opened (mk su (fresh su) l Phase.First)) more) .past)) (requestsOf io p fw ps) ≤ budget
+          → Finishes k io p fw ps (mk su (fresh su) l Phase.First) more
       from l z f m =
           let w : Work = download ps in
           let n : length (left ps su (fresh su)) ≡ requestsOf io p fw ps = count (r .sized) in
-          let v : FinishesIn w k (requestsOf io p fw ps) (endFor su) (mk su (fresh su) l First) more =
-          subst (λ (q : ℕ). FinishesIn w k q (endFor su) (mk su (fresh su) l First) more) n
+          subst (λ (q : ℕ). FinishesIn (told w) k q (endFor su) (mk su (fresh su) l Phase.First) more) n
           (any-finishes w su (left ps su) (room ps su) (endFor su) k (fresh su) l more (thrives ps su (r .sized)) (fresh-room io p fw ps r) (download-ends ps su) f
-          (subst (λ (q : ℕ). bound k (cleared ((after w (opened (mk su (fresh su) l First)) more) .past)) q ≤ suc l) (sym n)
-          (subst (λ (q : ℕ). bound k (cleared ((after w (opened (mk su (fresh su) l First)) more) .past)) (requestsOf io p fw ps) ≤ q) z m))) in
-          record { unrefused = v .unrefused; agreed = v .agreed; within = v .within; done = v .done }
+          (subst (λ (q : ℕ). bound k (cleared ((after w (opened (mk su (fresh su) l Phase.First)) more) .past)) q ≤ suc l) (sym n)
+          (subst (λ (q : ℕ). bound k (cleared ((after w (opened (mk su (fresh su) l Phase.First)) more) .past)) (requestsOf io p fw ps) ≤ q) z m)))

@@ -5,24 +5,12 @@ use mathlib.Core.List.{List, [], _∷_, _++_, append-assoc, append-nil, map, map
 use lib.Dec.{eqb}
 use lib.ListN.{length}
 use Rattle.ground.proofs.Tests.{picked}
-use Rattle.protocol.specs.declared.DfuProtocol.{DfuProtocol}
-use Rattle.work.specs.Work.{waitAfter}
-use Rattle.session.specs.Told.{Answer, mk}
-use Rattle.download.specs.Download.{download, nextOf, tookOf}
-use Rattle.start.specs.Start.{setupOf, fresh}
-use Rattle.wire.specs.declared.Command.{Command}
-use Rattle.wire.specs.declared.Command.the-variants.{Erase, SetAddress, Block, Empty}
-use Rattle.wire.specs.declared.Request.the-variants.{Command as Commands}
-use Rattle.machine.specs.declared.Phase.the-variants.{First}
-use Rattle.work.specs.declared.Setup.{Setup}
-use Rattle.work.specs.declared.Progress.{Progress}
-use Rattle.session.specs.declared.Session.{Session}
-use Rattle.work.specs.declared.Todo.{Todo}
-use Rattle.work.specs.declared.Todo.the-variants.{Send, End as Ends, Refuse}
-use Rattle.start.specs.declared.DfuSansIo.{DfuSansIo}
 use Rattle.papers.specs.Plan.{Dnload}
-use Rattle.promises.specs.Run.{Event, sends, opened, after, commanded, Over}
+use Rattle.work.specs.Work.{waitAfter}
+use Rattle.download.specs.Download.{nextOf, tookOf}
 use Rattle.plan.specs.Sent.{onWire, planOf, Begins}
+use Rattle.promises.specs.Words.{DfuProtocol, Command, Request, Setup, Progress, Todo, download, Phase, Session, Answer, mk, DfuSansIo, setupOf, fresh}
+use Rattle.promises.specs.Run.{Event, sends, opened, after, commanded, Over}
 use Rattle.promises.proofs.Walk.{Claims, Holds, Wished, WaitingAt, Good, run-always, run-over, either-end}
 use Rattle.promises.proofs.Wanted.{left, Heads, heads, wanted, fresh-wanted}
 use Rattle.promises.proofs.Onwire.{wanted-plan}
@@ -51,25 +39,25 @@ planned ps su all = record {
 
 module _ (ps : List ℕ) (su : Setup) (all : List Command) where
   wait-so : (c : Command) (k : ℕ) (pr : Progress) (l : ℕ) (h : List Event) → So all h (left ps su pr) → WaitingAt (download ps) su (planned ps su all) (waitAfter su c k) pr l h
-  wait-so (Erase a) k pr l h v = v
-  wait-so (SetAddress a) k pr l h v = v
-  wait-so (Block n f m) k pr l h v = v
-  wait-so (Empty n) k pr l h v = v
+  wait-so (Command.Erase a) k pr l h v = v
+  wait-so (Command.SetAddress a) k pr l h v = v
+  wait-so (Command.Block n f m) k pr l h v = v
+  wait-so (Command.Empty n) k pr l h v = v
 
   wished : (pr : Progress) (l : ℕ) (h : List Event) (t : Todo) → Heads (download ps) (left ps su) su (left ps su pr) t → So all h (left ps su pr)
       → Wished (download ps) su (planned ps su all) pr l h t
   unfolding commanded
-  wished pr l h (Send c then) e v =
-      let on : So all (sends (Commands c) ∷ h) (left ps su (tookOf su then c)) =
+  wished pr l h (Todo.Send c then) e v =
+      let on : So all (sends (Request.Command c) ∷ h) (left ps su (tookOf su then c)) =
       append-assoc (commanded h) (c ∷ []) (left ps su (tookOf su then c)) ∙ ap (λ (x : List Command). commanded h ++ x) e ∙ v in
       λ m z. (
         (left ps su (tookOf su then c), on),
-        λ k f. wait-so c k (tookOf su then c) m (sends (Commands c) ∷ h) on,
+        λ k f. wait-so c k (tookOf su then c) m (sends (Request.Command c) ∷ h) on,
       )
-  wished pr l h (Ends x) e v =
+  wished pr l h (Todo.End x) e v =
       let all-done : So all h [] = ap (λ (x : List Command). commanded h ++ x) e ∙ v in
       either-end (download ps) su (planned ps su all) pr l h x all-done all-done
-  wished pr l h (Refuse x) e v = (left ps su pr, v)
+  wished pr l h (Todo.Refuse x) e v = (left ps su pr, v)
 
   holds : 0 < su .size → Holds (download ps) su (planned ps su all)
   unfolding commanded
@@ -96,22 +84,22 @@ module _ (ps : List ℕ) (su : Setup) (all : List Command) where
   }
 
 -- a session at its first request, with all of it still to come
-fresh-good : (ps : List ℕ) (su : Setup) (l : ℕ) → 0 < su .size → Good (download ps) su (planned ps su (wanted su ps)) (opened (mk su (fresh su) l First))
+fresh-good : (ps : List ℕ) (su : Setup) (l : ℕ) → 0 < su .size → Good (download ps) su (planned ps su (wanted su ps)) (opened (mk su (fresh su) l Phase.First))
 unfolding commanded
 fresh-good ps su l k = record { setup = refl; holds = fresh-wanted ps su k }
 
 -- the same of a session at its first request, by meaning
 module _ (ps : List ℕ) (su : Setup) (l : ℕ) (more : List Answer) (k : 0 < su .size) where
-  ran-whole : Over ((after (download ps) (opened (mk su (fresh su) l First)) more) .session .phase)
-      → commanded ((after (download ps) (opened (mk su (fresh su) l First)) more) .past) ≡ wanted su ps
+  ran-whole : Over ((after (download ps) (opened (mk su (fresh su) l Phase.First)) more) .session .phase)
+      → commanded ((after (download ps) (opened (mk su (fresh su) l Phase.First)) more) .past) ≡ wanted su ps
   ran-whole o =
       sym (append-nil _)
-      ∙ (run-over (download ps) su (planned ps su (wanted su ps)) (holds ps su (wanted su ps) k) (opened (mk su (fresh su) l First)) more
+      ∙ (run-over (download ps) su (planned ps su (wanted su ps)) (holds ps su (wanted su ps) k) (opened (mk su (fresh su) l Phase.First)) more
       (fresh-good ps su l k) o) .2
 
-  ran-part : Leads (wanted su ps) ((after (download ps) (opened (mk su (fresh su) l First)) more) .past)
+  ran-part : Leads (wanted su ps) ((after (download ps) (opened (mk su (fresh su) l Phase.First)) more) .past)
   ran-part =
-      run-always (download ps) su (planned ps su (wanted su ps)) (holds ps su (wanted su ps) k) (opened (mk su (fresh su) l First)) more
+      run-always (download ps) su (planned ps su (wanted su ps)) (holds ps su (wanted su ps) k) (opened (mk su (fresh su) l Phase.First)) more
       (fresh-good ps su l k)
 
 module _ (io : DfuSansIo) (p : DfuProtocol) (fw ps : List ℕ) (budget : ℕ) (s : Session) (more : List Answer) where
@@ -142,7 +130,7 @@ module _ (io : DfuSansIo) (p : DfuProtocol) (fw ps : List ℕ) (budget : ℕ) (s
       (sym e)
       (let (rest, v) = ran-part ps su l more k in (
         map (onWire fw) rest,
-        sym (map-append (onWire fw) (commanded ((after (download ps) (opened (mk su (fresh su) l First)) more) .past)) rest)
+        sym (map-append (onWire fw) (commanded ((after (download ps) (opened (mk su (fresh su) l Phase.First)) more) .past)) rest)
             ∙ ap (λ (x : List Command). map (onWire fw) x) v
             ∙ wanted-plan fw su ps refl k,
       ))

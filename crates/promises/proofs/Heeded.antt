@@ -3,14 +3,8 @@ use Prim.Native.Nat.{ℕ}
 use mathlib.Core.Path.{_≡_, refl, ap, _∙_}
 use mathlib.Core.Bool.{Bool, true, false, true≢false}
 use mathlib.Core.List.{List, [], _∷_, _++_}
-use Rattle.ground.specs.Pick.{pick}
-use Rattle.work.specs.Work.{Work}
-use Rattle.session.specs.Told.{Answer, count, reply, waited, wasReset, failed, mk, toldAt, told}
-use Rattle.work.specs.declared.Wait.the-variants.{Pause, Poll}
-use Rattle.machine.specs.declared.Phase.{Phase}
-use Rattle.machine.specs.declared.Phase.the-variants.{First, Clear, Second, Sent, Waiting, Resetting, Finished, Refused}
-use Rattle.work.specs.declared.Progress.{Progress}
-use Rattle.work.specs.declared.Setup.{Setup}
+use Rattle.session.specs.Told.{toldAt}
+use Rattle.promises.specs.Words.{pick, Setup, Progress, Wait, Work, Phase, Answer, count, reply, waited, wasReset, failed, mk, told}
 use Rattle.promises.specs.Run.{Event, sentBy, heardAt, World, tell, after, afterBy}
 use Rattle.promises.specs.Fair.{awaited, heeded, heededBy}
 
@@ -22,43 +16,43 @@ worldAt su pr l p h = record { session = mk su pr l p; past = h }
 
 unawaitedAt : (w : Work) (su : Setup) (pr : Progress) (l : ℕ) (p : Phase) (h : List Event) (a : Answer) → awaited p a ≡ false
     → worldTold w su pr l p h a ≡ worldAt su pr l p h
-unawaitedAt w su pr l First h (count n) e = refl
-unawaitedAt w su pr l First h (reply bs) e = absurd (true≢false e)
-unawaitedAt w su pr l First h waited e = refl
-unawaitedAt w su pr l First h wasReset e = refl
-unawaitedAt w su pr l First h failed e = absurd (true≢false e)
-unawaitedAt w su pr l Clear h (count n) e = absurd (true≢false e)
-unawaitedAt w su pr l Clear h (reply bs) e = refl
-unawaitedAt w su pr l Clear h waited e = refl
-unawaitedAt w su pr l Clear h wasReset e = refl
-unawaitedAt w su pr l Clear h failed e = absurd (true≢false e)
-unawaitedAt w su pr l Second h (count n) e = refl
-unawaitedAt w su pr l Second h (reply bs) e = absurd (true≢false e)
-unawaitedAt w su pr l Second h waited e = refl
-unawaitedAt w su pr l Second h wasReset e = refl
-unawaitedAt w su pr l Second h failed e = absurd (true≢false e)
-unawaitedAt w su pr l (Sent c) h (count n) e = absurd (true≢false e)
-unawaitedAt w su pr l (Sent c) h (reply bs) e = refl
-unawaitedAt w su pr l (Sent c) h waited e = refl
-unawaitedAt w su pr l (Sent c) h wasReset e = refl
-unawaitedAt w su pr l (Sent c) h failed e = absurd (true≢false e)
-unawaitedAt w su pr l (Waiting (Pause b t ms)) h (count n) e = refl
-unawaitedAt w su pr l (Waiting (Pause b t ms)) h (reply bs) e = refl
-unawaitedAt w su pr l (Waiting (Pause b t ms)) h waited e = absurd (true≢false e)
-unawaitedAt w su pr l (Waiting (Pause b t ms)) h wasReset e = refl
-unawaitedAt w su pr l (Waiting (Pause b t ms)) h failed e = refl
-unawaitedAt w su pr l (Waiting (Poll b t)) h (count n) e = refl
-unawaitedAt w su pr l (Waiting (Poll b t)) h (reply bs) e = absurd (true≢false e)
-unawaitedAt w su pr l (Waiting (Poll b t)) h waited e = refl
-unawaitedAt w su pr l (Waiting (Poll b t)) h wasReset e = refl
-unawaitedAt w su pr l (Waiting (Poll b t)) h failed e = absurd (true≢false e)
-unawaitedAt w su pr l Resetting h (count n) e = refl
-unawaitedAt w su pr l Resetting h (reply bs) e = refl
-unawaitedAt w su pr l Resetting h waited e = refl
-unawaitedAt w su pr l Resetting h wasReset e = absurd (true≢false e)
-unawaitedAt w su pr l Resetting h failed e = absurd (true≢false e)
-unawaitedAt w su pr l (Finished x) h a e = absurd (true≢false e)
-unawaitedAt w su pr l (Refused x) h a e = absurd (true≢false e)
+unawaitedAt w su pr l Phase.First h (count n) e = refl
+unawaitedAt w su pr l Phase.First h (reply bs) e = absurd (true≢false e)
+unawaitedAt w su pr l Phase.First h waited e = refl
+unawaitedAt w su pr l Phase.First h wasReset e = refl
+unawaitedAt w su pr l Phase.First h failed e = absurd (true≢false e)
+unawaitedAt w su pr l Phase.Clear h (count n) e = absurd (true≢false e)
+unawaitedAt w su pr l Phase.Clear h (reply bs) e = refl
+unawaitedAt w su pr l Phase.Clear h waited e = refl
+unawaitedAt w su pr l Phase.Clear h wasReset e = refl
+unawaitedAt w su pr l Phase.Clear h failed e = absurd (true≢false e)
+unawaitedAt w su pr l Phase.Second h (count n) e = refl
+unawaitedAt w su pr l Phase.Second h (reply bs) e = absurd (true≢false e)
+unawaitedAt w su pr l Phase.Second h waited e = refl
+unawaitedAt w su pr l Phase.Second h wasReset e = refl
+unawaitedAt w su pr l Phase.Second h failed e = absurd (true≢false e)
+unawaitedAt w su pr l (Phase.Sent c) h (count n) e = absurd (true≢false e)
+unawaitedAt w su pr l (Phase.Sent c) h (reply bs) e = refl
+unawaitedAt w su pr l (Phase.Sent c) h waited e = refl
+unawaitedAt w su pr l (Phase.Sent c) h wasReset e = refl
+unawaitedAt w su pr l (Phase.Sent c) h failed e = absurd (true≢false e)
+unawaitedAt w su pr l (Phase.Waiting (Wait.Pause b t ms)) h (count n) e = refl
+unawaitedAt w su pr l (Phase.Waiting (Wait.Pause b t ms)) h (reply bs) e = refl
+unawaitedAt w su pr l (Phase.Waiting (Wait.Pause b t ms)) h waited e = absurd (true≢false e)
+unawaitedAt w su pr l (Phase.Waiting (Wait.Pause b t ms)) h wasReset e = refl
+unawaitedAt w su pr l (Phase.Waiting (Wait.Pause b t ms)) h failed e = refl
+unawaitedAt w su pr l (Phase.Waiting (Wait.Poll b t)) h (count n) e = refl
+unawaitedAt w su pr l (Phase.Waiting (Wait.Poll b t)) h (reply bs) e = absurd (true≢false e)
+unawaitedAt w su pr l (Phase.Waiting (Wait.Poll b t)) h waited e = refl
+unawaitedAt w su pr l (Phase.Waiting (Wait.Poll b t)) h wasReset e = refl
+unawaitedAt w su pr l (Phase.Waiting (Wait.Poll b t)) h failed e = absurd (true≢false e)
+unawaitedAt w su pr l Phase.Resetting h (count n) e = refl
+unawaitedAt w su pr l Phase.Resetting h (reply bs) e = refl
+unawaitedAt w su pr l Phase.Resetting h waited e = refl
+unawaitedAt w su pr l Phase.Resetting h wasReset e = absurd (true≢false e)
+unawaitedAt w su pr l Phase.Resetting h failed e = absurd (true≢false e)
+unawaitedAt w su pr l (Phase.Finished x) h a e = absurd (true≢false e)
+unawaitedAt w su pr l (Phase.Refused x) h a e = absurd (true≢false e)
 
 unawaited : (w : Work) (x : World) (a : Answer) → awaited (x .session .phase) a ≡ false → tell w x a ≡ x
 unfolding told

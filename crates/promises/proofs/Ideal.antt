@@ -9,26 +9,13 @@ use lib.ListN.{length}
 use Rattle.ground.proofs.Tests.{picked}
 use Rattle.get_status.specs.Names.{stateOf, stateByte, settled}
 use Rattle.get_status.specs.declared.State.{State}
-use Rattle.get_status.specs.declared.State.the-variants.{DfuIdle, DfuManifest}
-use Rattle.protocol.specs.declared.DfuProtocol.{DfuProtocol}
-use Rattle.work.specs.Work.{Work, waitAfter}
-use Rattle.session.specs.Told.{Answer, mk, told}
-use Rattle.download.specs.Download.{download}
-use Rattle.start.specs.Start.{setupOf}
-use Rattle.wire.specs.declared.Command.{Command}
-use Rattle.wire.specs.declared.Command.the-variants.{Erase, SetAddress, Block, Empty}
-use Rattle.work.specs.declared.Wait.the-variants.{Pause, Poll}
-use Rattle.machine.specs.declared.Phase.{Phase}
-use Rattle.machine.specs.declared.Phase.the-variants.{First, Clear, Second, Sent, Waiting, Resetting, Finished, Refused}
-use Rattle.work.specs.declared.Progress.{Progress}
-use Rattle.work.specs.declared.Setup.{Setup}
-use Rattle.session.specs.declared.Session.{Session}
-use Rattle.start.specs.declared.DfuSansIo.{DfuSansIo}
-use Rattle.promises.specs.Run.{Event, World, opened, tell}
-use Rattle.promises.specs.Fair.{awaited, heeded, heededBy, Fine, allowed, Fair, FairBy}
+use Rattle.work.specs.Work.{waitAfter}
 use Rattle.plan.specs.Answers.{ideal}
 use Rattle.plan.specs.Sent.{Begins}
-use Rattle.promises.proofs.Walk.{Claims, Holds, ClaimAt, Good, tell-good, either-end}
+use Rattle.promises.specs.Words.{DfuProtocol, Command, Setup, Progress, Wait, Work, download, Phase, Session, Answer, mk, told, DfuSansIo, setupOf}
+use Rattle.promises.specs.Run.{Event, World, opened, tell}
+use Rattle.promises.specs.Fair.{awaited, heeded, heededBy, Fine, allowed, Fair, FairBy}
+use Rattle.promises.proofs.Walk.{Claims, Holds, ClaimAt, Good, tell-good}
 use Rattle.promises.proofs.Lasting.{lasting, OfWait, lasting-holds, unit-wish}
 use Rattle.promises.proofs.Counted.{whole-taken}
 use Rattle.promises.proofs.Started.{started}
@@ -47,10 +34,10 @@ sane = lasting (λ b t. Shown t) Unit (λ e. Unit) (λ e. Unit)
 
 module _ (w : Work) (su : Setup) where
   waits : (c : Command) (n : ℕ) → OfWait (λ b t. Shown t) Unit (λ e. Unit) (λ e. Unit) (waitAfter su c n)
-  waits (Erase a) k = refl
-  waits (SetAddress a) k = refl
-  waits (Block n f m) k = refl
-  waits (Empty n) k = picked Shown (su .tolerant) DfuIdle DfuManifest (λ e. refl) (λ e. refl)
+  waits (Command.Erase a) k = refl
+  waits (Command.SetAddress a) k = refl
+  waits (Command.Block n f m) k = refl
+  waits (Command.Empty n) k = picked Shown (su .tolerant) State.DfuIdle State.DfuManifest (λ e. refl) (λ e. refl)
 
   holds : Holds w su sane
   holds =
@@ -58,15 +45,15 @@ module _ (w : Work) (su : Setup) where
       (record { waits = waits; reset = λ v. tt; wishes = λ pr. unit-wish (λ b t. Shown t) (w .next su pr); denies = λ e d. tt })
 
   fine : (j : ℕ) (p : Phase) (pr : Progress) (l : ℕ) (h : List Event) → ClaimAt w su sane p pr l h → Fine j p (ideal p)
-  fine j First pr l h v = (le-refl _, tt)
-  fine j Clear pr l h v = tt
-  fine j Second pr l h v = (le-refl _, (refl, refl))
-  fine j (Sent c) pr l h v = whole-taken c
-  fine j (Waiting (Pause b t ms)) pr l h v = tt
-  fine j (Waiting (Poll b t)) pr l h v = (le-refl _, (refl, inl v))
-  fine j Resetting pr l h v = tt
-  fine j (Finished e) pr l h v = tt
-  fine j (Refused e) pr l h v = tt
+  fine j Phase.First pr l h v = (le-refl _, tt)
+  fine j Phase.Clear pr l h v = tt
+  fine j Phase.Second pr l h v = (le-refl _, (refl, refl))
+  fine j (Phase.Sent c) pr l h v = whole-taken c
+  fine j (Phase.Waiting (Wait.Pause b t ms)) pr l h v = tt
+  fine j (Phase.Waiting (Wait.Poll b t)) pr l h v = (le-refl _, (refl, inl v))
+  fine j Phase.Resetting pr l h v = tt
+  fine j (Phase.Finished e) pr l h v = tt
+  fine j (Phase.Refused e) pr l h v = tt
 
   ideals-fair : (k j : ℕ) (x : World) (n : ℕ) → Good w su sane x → Fair k j w (x .session) (ideals w (x .session) n)
   unfolding FairBy ideals
@@ -80,15 +67,15 @@ module _ (w : Work) (su : Setup) where
 
 -- each of them is awaited
 ideal-awaited : (p : Phase) → awaited p (ideal p) ≡ true
-ideal-awaited First = refl
-ideal-awaited Clear = refl
-ideal-awaited Second = refl
-ideal-awaited (Sent c) = refl
-ideal-awaited (Waiting (Pause b t ms)) = refl
-ideal-awaited (Waiting (Poll b t)) = refl
-ideal-awaited Resetting = refl
-ideal-awaited (Finished e) = refl
-ideal-awaited (Refused e) = refl
+ideal-awaited Phase.First = refl
+ideal-awaited Phase.Clear = refl
+ideal-awaited Phase.Second = refl
+ideal-awaited (Phase.Sent c) = refl
+ideal-awaited (Phase.Waiting (Wait.Pause b t ms)) = refl
+ideal-awaited (Phase.Waiting (Wait.Poll b t)) = refl
+ideal-awaited Phase.Resetting = refl
+ideal-awaited (Phase.Finished e) = refl
+ideal-awaited (Phase.Refused e) = refl
 
 ideals-heeded : (w : Work) (s : Session) (n : ℕ) → heeded w s (ideals w s n) ≡ ideals w s n
 unfolding heededBy ideals
@@ -104,9 +91,9 @@ ideals-length w s (suc n) = ap suc (ideals-length w ((told w s (ideal (s .phase)
 
 -- FAIR ANSWERS EXIST for any work, for every k and of every length
 pub any-fair : (w : Work) (su : Setup) (pr : Progress) (l k n : ℕ)
-    → (more : List Answer) × Fair k 0 w (mk su pr l First) (heeded w (mk su pr l First) more) × (length (heeded w (mk su pr l First) more) ≡ n)
+    → (more : List Answer) × Fair k 0 w (mk su pr l Phase.First) (heeded w (mk su pr l Phase.First) more) × (length (heeded w (mk su pr l Phase.First) more) ≡ n)
 any-fair w su pr l k n =
-    let s : Session = mk su pr l First in (
+    let s : Session = mk su pr l Phase.First in (
       ideals w s n,
       subst (λ (x : List Answer). Fair k 0 w s x) (sym (ideals-heeded w s n)) (ideals-fair w su k 0 (opened s) n (record { setup = refl; holds = tt })),
       subst (λ (x : List Answer). length x ≡ n) (sym (ideals-heeded w s n)) (ideals-length w s n),

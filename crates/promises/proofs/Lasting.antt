@@ -4,21 +4,10 @@ use mathlib.Core.List.{List}
 use lib.Dec.{eqb}
 use Rattle.ground.proofs.Tests.{picked}
 use Rattle.get_status.specs.declared.State.{State}
-use Rattle.work.specs.Work.{Work, waitAfter}
-use Rattle.machine.specs.Machine.{endPhase}
-use Rattle.wire.specs.declared.Command.{Command}
-use Rattle.wire.specs.declared.Command.the-variants.{Erase, SetAddress, Block, Empty}
-use Rattle.work.specs.declared.Wait.{Wait}
-use Rattle.work.specs.declared.Wait.the-variants.{Pause, Poll}
-use Rattle.work.specs.declared.Error.{Error}
-use Rattle.work.specs.declared.End.{End}
-use Rattle.work.specs.declared.End.the-variants.{Stays, Reset}
-use Rattle.work.specs.declared.Progress.{Progress}
-use Rattle.work.specs.declared.Setup.{Setup}
-use Rattle.work.specs.declared.Todo.{Todo}
-use Rattle.work.specs.declared.Todo.the-variants.{Send, End as Ends, Refuse}
+use Rattle.work.specs.Work.{waitAfter}
+use Rattle.promises.specs.Words.{Command, Setup, Progress, Todo, Wait, End, Error, Work}
 use Rattle.promises.specs.Run.{Event}
-use Rattle.promises.proofs.Walk.{Claims, Ending, Holds, Wished, EndAt, WaitingAt}
+use Rattle.promises.proofs.Walk.{Claims, Ending, Holds, Wished, WaitingAt}
 
 module _ (W : State → State → Type 0) (R : Type 0) (F : End → Type 0) (D : Error → Type 0) where
   abbrev pub lasting : Claims
@@ -36,37 +25,37 @@ module _ (W : State → State → Type 0) (R : Type 0) (F : End → Type 0) (D :
   }
 
   abbrev pub OfWait : Wait → Type 0
-  OfWait (Pause b t ms) = W b t
-  OfWait (Poll b t) = W b t
+  OfWait (Wait.Pause b t ms) = W b t
+  OfWait (Wait.Poll b t) = W b t
 
   abbrev pub OfEnd : End → Type 0
-  OfEnd Stays = F Stays
-  OfEnd Reset = R
+  OfEnd End.Stays = F End.Stays
+  OfEnd End.Reset = R
 
   abbrev pub OfWish : Todo → Type 0
-  OfWish (Send c then) = Unit
-  OfWish (Ends e) = OfEnd e
-  OfWish (Refuse e) = D e
+  OfWish (Todo.Send c then) = Unit
+  OfWish (Todo.End e) = OfEnd e
+  OfWish (Todo.Refuse e) = D e
 
   -- what is asked of them: each wait begins with its claim, the end has its own, and so has every refusal
   pub record Lasts (w : Work) (su : Setup) : Type 0 where
     pub waits : (c : Command) (n : ℕ) → OfWait (waitAfter su c n)
-    pub reset : R → F Reset
+    pub reset : R → F End.Reset
     pub wishes : (pr : Progress) → OfWish (w .next su pr)
     pub denies : (e : Error) → Ending e → D e
 
   module _ (w : Work) (su : Setup) (g : Lasts w su) where
     waiting : (c : Command) (n : ℕ) (pr : Progress) (l : ℕ) (h : List Event) → OfWait (waitAfter su c n) → WaitingAt w su lasting (waitAfter su c n) pr l h
-    waiting (Erase a) k pr l h v = v
-    waiting (SetAddress a) k pr l h v = v
-    waiting (Block n f m) k pr l h v = v
-    waiting (Empty n) k pr l h v = v
+    waiting (Command.Erase a) k pr l h v = v
+    waiting (Command.SetAddress a) k pr l h v = v
+    waiting (Command.Block n f m) k pr l h v = v
+    waiting (Command.Empty n) k pr l h v = v
 
     wished : (pr : Progress) (l : ℕ) (h : List Event) (t : Todo) → OfWish t → Wished w su lasting pr l h t
-    wished pr l h (Send c then) v = λ m e. (tt, λ n f. waiting c n (w .took su then c n) m _ (g .waits c n))
-    wished pr l h (Ends Stays) v = v
-    wished pr l h (Ends Reset) v = v
-    wished pr l h (Refuse e) v = v
+    wished pr l h (Todo.Send c then) v = λ m e. (tt, λ n f. waiting c n (w .took su then c n) m _ (g .waits c n))
+    wished pr l h (Todo.End End.Stays) v = v
+    wished pr l h (Todo.End End.Reset) v = v
+    wished pr l h (Todo.Refuse e) v = v
 
     pub lasting-holds : Holds w su lasting
     lasting-holds = record {
@@ -93,14 +82,14 @@ module _ (W : State → State → Type 0) (R : Type 0) (F : End → Type 0) (D :
 
 -- wishes of whose refusals nothing is claimed
 pub unit-wish : (P : State → State → Type 0) (t : Todo) → OfWish P Unit (λ e. Unit) (λ e. Unit) t
-unit-wish P (Send c then) = tt
-unit-wish P (Ends Stays) = tt
-unit-wish P (Ends Reset) = tt
-unit-wish P (Refuse e) = tt
+unit-wish P (Todo.Send c then) = tt
+unit-wish P (Todo.End End.Stays) = tt
+unit-wish P (Todo.End End.Reset) = tt
+unit-wish P (Todo.Refuse e) = tt
 
 -- waits of which nothing is claimed
 pub unit-waits : (su : Setup) (c : Command) (n : ℕ) → OfWait (λ b t. Unit) Unit (λ e. Unit) (λ e. Unit) (waitAfter su c n)
-unit-waits su (Erase a) k = tt
-unit-waits su (SetAddress a) k = tt
-unit-waits su (Block n f m) k = tt
-unit-waits su (Empty n) k = tt
+unit-waits su (Command.Erase a) k = tt
+unit-waits su (Command.SetAddress a) k = tt
+unit-waits su (Command.Block n f m) k = tt
+unit-waits su (Command.Empty n) k = tt

@@ -9,31 +9,16 @@ use lib.ListN.{length, getD}
 use lib.Dec.{ltb}
 use borrow.Author.Tests.{ltb-true}
 use Rattle.ground.proofs.Tests.{picked}
-use Rattle.protocol.specs.declared.DfuProtocol.{DfuProtocol}
-use Rattle.work.specs.Work.{saidError, limit, endOf, blockCount}
-use Rattle.machine.specs.Machine.{saidAsk}
-use Rattle.session.specs.Told.{Answer, mk, told}
-use Rattle.download.specs.Download.{eraseNext, writeNext, nextAt, nextOf, download}
-use Rattle.start.specs.Start.{dfuseb, targetOf, setupOf, fresh, saidStart}
-use Rattle.wire.specs.declared.Command.{Command}
-use Rattle.work.specs.declared.Error.{Error}
-use Rattle.work.specs.declared.Error.the-variants.{InvalidState, EraseLimitReached, NoSpaceLeft, ResponseTooShort, BudgetSpent, NotAwaited, NotAsAtStart, Failed, StatusError, WrongCount}
-use Rattle.work.specs.declared.End.the-variants.{Stays}
-use Rattle.machine.specs.declared.Phase.the-variants.{First, Finished}
-use Rattle.work.specs.declared.Stage.{Stage}
-use Rattle.work.specs.declared.Stage.the-variants.{Erasing, Writing, Ending}
-use Rattle.work.specs.declared.Progress.{Progress}
-use Rattle.work.specs.declared.Setup.{Setup}
-use Rattle.session.specs.declared.Session.{Session}
-use Rattle.machine.specs.declared.Ask.{Ask}
-use Rattle.machine.specs.declared.Ask.the-variants.{Transfer, Wait as WaitFor, Reset as ResetBus, Finished as HasFinished, Refused as SaysNo}
-use Rattle.start.specs.declared.DfuSansIo.{DfuSansIo}
-use Rattle.start.specs.declared.StartError.{StartError}
-use Rattle.start.specs.declared.StartError.the-variants.{OutOfCapabilities, TooManyPages, NoSpaceLeft as NoSpace, TooManyBlocks, BudgetSpent as NoBudget}
 use Rattle.papers.specs.Dfuse.{blockAddress}
 use Rattle.papers.specs.Plan.{blockNumber}
-use Rattle.plan.specs.Sent.{Begins}
 use Rattle.papers.proofs.Numbers.{block-number, block-address}
+use Rattle.work.specs.Work.{saidError, limit, endOf, blockCount}
+use Rattle.download.specs.Download.{eraseNext, writeNext, nextAt, nextOf}
+use Rattle.machine.specs.Machine.{saidAsk}
+use Rattle.start.specs.Start.{dfuseb, targetOf, saidStart}
+use Rattle.start.specs.declared.StartError.{StartError}
+use Rattle.plan.specs.Sent.{Begins}
+use Rattle.promises.specs.Words.{DfuProtocol, Command, Setup, Progress, Stage, End, Error, download, Phase, Ask, Session, Answer, mk, told, DfuSansIo, setupOf, fresh}
 use Rattle.promises.specs.Run.{Event, World, opened, tell, commanded}
 use Rattle.promises.specs.Calls.{Call, calls}
 use Rattle.promises.specs.Limits.{EndsBelow, AllBelow}
@@ -53,17 +38,17 @@ module _ (su : Setup) (k : endOf su < limit) where
 
   wishes : (st : Stage) (ps : List ℕ) (pr : Progress) → KeptBy Below (nextAt st ps su pr)
   unfolding eraseNext writeNext commanded
-  wishes Erasing ps pr =
+  wishes Stage.Erasing ps pr =
       picked (KeptBy Below) (ltb (pr .erased) (endOf su)) _ _
       (λ e. picked (KeptBy Below) (ltb (pr .page) (length ps)) _ _
       (λ f. picked (KeptBy Below) (ltb (pr .erased + getD ps (pr .page) 0) limit) _ _ (λ g l h v. one-more _ (commanded h) _ v tt) (λ g. tt))
       (λ f. tt))
       (λ e l h v. one-more _ (commanded h) _ v tt)
-  wishes Writing ps pr =
+  wishes Stage.Writing ps pr =
       picked (KeptBy Below) (ltb (pr .accepted) (su .length)) _ _
       (λ e l h v. one-more _ (commanded h) _ v (omega (arith, ltb-true (pr .accepted) (su .length) e, k)))
       (λ e l h v. one-more _ (commanded h) _ v tt)
-  wishes Ending ps pr = tt
+  wishes Stage.Ending ps pr = tt
 
   below : (ps : List ℕ) → Steady Below (download ps) su
   unfolding nextOf commanded
@@ -81,18 +66,18 @@ module _ (io : DfuSansIo) (p : DfuProtocol) (fw ps : List ℕ) (budget : ℕ) (s
   su = setupOf io p (length fw) (length ps)
 
   -- a session at its first request has commanded nothing yet
-  at-start : (k : endOf su < limit) (l : ℕ) → s ≡ mk su (fresh su) l First → Kept su k (opened s)
+  at-start : (k : endOf su < limit) (l : ℕ) → s ≡ mk su (fresh su) l Phase.First → Kept su k (opened s)
   unfolding commanded AllBelow
   at-start k l q = subst (λ (x : Session). Kept su k (opened x)) (sym q) (refl, tt)
 
   -- one that finished at once never does
-  done : (l : ℕ) (more : List Call) → s ≡ mk su (fresh su) l (Finished Stays) → calls (opened s) more ≡ opened (mk su (fresh su) l (Finished Stays))
+  done : (l : ℕ) (more : List Call) → s ≡ mk su (fresh su) l (Phase.Finished End.Stays) → calls (opened s) more ≡ opened (mk su (fresh su) l (Phase.Finished End.Stays))
   unfolding told
   done l more q =
-      let x : World = opened (mk su (fresh su) l (Finished Stays)) in
+      let x : World = opened (mk su (fresh su) l (Phase.Finished End.Stays)) in
       calls-keep (λ (y : World). y ≡ x) (λ ps y a v. ap (λ (z : World). tell (download ps) z a) v) (opened s) more (ap opened q)
 
-  none : (l : ℕ) (more : List Call) → s ≡ mk su (fresh su) l (Finished Stays) → AllBelow (su .address) (commanded ((calls (opened s) more) .past))
+  none : (l : ℕ) (more : List Call) → s ≡ mk su (fresh su) l (Phase.Finished End.Stays) → AllBelow (su .address) (commanded ((calls (opened s) more) .past))
   unfolding commanded AllBelow
   none l more q = subst (λ (x : World). AllBelow (su .address) (commanded (x .past))) (sym (done l more q)) tt
 
@@ -117,27 +102,27 @@ module _ (io : DfuSansIo) (p : DfuProtocol) (fw ps : List ℕ) (budget : ℕ) (s
 
 -- NO REFUSAL IS 3
 never-3-error : (e : Error) → saidError e .number ≡ 3 → ⊥
-never-3-error (InvalidState got expected) e = omega (arith, e)
-never-3-error EraseLimitReached e = omega (arith, e)
-never-3-error NoSpaceLeft e = omega (arith, e)
-never-3-error (ResponseTooShort got) e = omega (arith, e)
-never-3-error BudgetSpent e = omega (arith, e)
-never-3-error NotAwaited e = omega (arith, e)
-never-3-error NotAsAtStart e = omega (arith, e)
-never-3-error Failed e = omega (arith, e)
-never-3-error (StatusError status) e = omega (arith, e)
-never-3-error (WrongCount n m) e = omega (arith, e)
+never-3-error (Error.InvalidState got expected) e = omega (arith, e)
+never-3-error Error.EraseLimitReached e = omega (arith, e)
+never-3-error Error.NoSpaceLeft e = omega (arith, e)
+never-3-error (Error.ResponseTooShort got) e = omega (arith, e)
+never-3-error Error.BudgetSpent e = omega (arith, e)
+never-3-error Error.NotAwaited e = omega (arith, e)
+never-3-error Error.NotAsAtStart e = omega (arith, e)
+never-3-error Error.Failed e = omega (arith, e)
+never-3-error (Error.StatusError status) e = omega (arith, e)
+never-3-error (Error.WrongCount n m) e = omega (arith, e)
 
 pub never-3 : (k : Ask) → saidAsk k .number ≡ 3 → ⊥
-never-3 (Transfer q) e = omega (arith, e)
-never-3 (WaitFor ms) e = omega (arith, e)
-never-3 ResetBus e = omega (arith, e)
-never-3 (HasFinished x) e = omega (arith, e)
-never-3 (SaysNo x) e = never-3-error x e
+never-3 (Ask.Transfer q) e = omega (arith, e)
+never-3 (Ask.Wait ms) e = omega (arith, e)
+never-3 Ask.Reset e = omega (arith, e)
+never-3 (Ask.Finished x) e = omega (arith, e)
+never-3 (Ask.Refused x) e = never-3-error x e
 
 pub start-never-3 : (e : StartError) → saidStart e .number ≡ 3 → ⊥
-start-never-3 OutOfCapabilities e = omega (arith, e)
-start-never-3 TooManyPages e = omega (arith, e)
-start-never-3 NoSpace e = omega (arith, e)
-start-never-3 TooManyBlocks e = omega (arith, e)
-start-never-3 NoBudget e = omega (arith, e)
+start-never-3 StartError.OutOfCapabilities e = omega (arith, e)
+start-never-3 StartError.TooManyPages e = omega (arith, e)
+start-never-3 StartError.NoSpaceLeft e = omega (arith, e)
+start-never-3 StartError.TooManyBlocks e = omega (arith, e)
+start-never-3 StartError.BudgetSpent e = omega (arith, e)

@@ -6,22 +6,16 @@ use mathlib.Core.Bool.{Bool, true, false, true≢false}
 use mathlib.Core.List.{List, [], _∷_, _++_, map}
 use lib.ListN.{length, getD, length-append, length-map}
 use Rattle.ground.specs.Bytes.{littleEndian, field, bytesLow}
-use Rattle.protocol.specs.declared.DfuProtocol.the-variants.{Dfu, Dfuse}
-use Rattle.machine.specs.Machine.{onFirst, onSecond, onPoll}
-use Rattle.session.specs.Told.{Answer, count, waited, mk, told}
-use Rattle.work.specs.Work.{blockCount}
-use Rattle.download.specs.Download.{download, covering, eraseNext, writeNext, nextOf, tookOf}
-use Rattle.start.specs.Start.{setupOf, fresh, begunOf, beginOf}
-use Rattle.wire.specs.declared.Request.the-variants.{GetStatus}
-use Rattle.work.specs.declared.End.{End}
-use Rattle.machine.specs.declared.Phase.the-variants.{First, Finished}
-use Rattle.session.specs.declared.Session.{Session}
-use Rattle.start.specs.declared.DfuSansIo.{DfuSansIo}
-use Rattle.start.specs.declared.StartError.{StartError}
-use Rattle.start.specs.declared.Started.the-variants.{Session as Begun, Refused as Unbegun}
 use Rattle.papers.specs.Plan.{Dnload, erasing, several, blockOf, plan, leading, blocksFor}
-use Rattle.promises.specs.Run.{Event, sends, hears, opened, afterBy, inTime, transfers, commanded, cleared}
+use Rattle.work.specs.Work.{blockCount}
+use Rattle.download.specs.Download.{covering, eraseNext, writeNext, nextOf, tookOf}
+use Rattle.machine.specs.Machine.{onFirst, onSecond, onPoll}
+use Rattle.start.specs.Start.{begunOf, beginOf}
+use Rattle.start.specs.declared.StartError.{StartError}
+use Rattle.start.specs.declared.Started.{Started}
 use Rattle.plan.specs.Sent.{onWire, planOf}
+use Rattle.promises.specs.Words.{DfuProtocol, Request, End, download, Phase, Session, Answer, count, waited, mk, told, DfuSansIo, setupOf, fresh}
+use Rattle.promises.specs.Run.{Event, sends, hears, opened, afterBy, inTime, transfers, commanded, cleared}
 use Rattle.promises.specs.Whole.{opening, busyAfter, targetAfter, looks, Round, roundOf, rounds, requestOf, Listed}
 use Rattle.promises.specs.Fair.{heededBy, FairBy, Ready}
 use Rattle.promises.specs.Samples.{deviceOf, shows}
@@ -48,7 +42,7 @@ ours-lists io p fw ps budget s more h k b o = finished-lists io p fw ps budget s
 pub ours-starts : Starts ours
 ours-starts io p fw ps zero r h = absurd (omega arith)
 ours-starts io p fw ps (suc l) r h =
-    (mk (setupOf io p (length fw) (length ps)) (fresh (setupOf io p (length fw) (length ps))) l First, starts io p fw ps r l)
+    (mk (setupOf io p (length fw) (length ps)) (fresh (setupOf io p (length fw) (length ps))) l Phase.First, starts io p fw ps r l)
 
 pub ours-finishes : Finishing ours
 ours-finishes io p fw ps k budget s more r b f m = finishes io p fw ps k budget s more r b f m
@@ -67,28 +61,28 @@ ours-whole io p fw ps budget s more b o = unrefused-whole (download ps) (opened 
 abbrev sample : DfuSansIo
 sample = deviceOf true false 8
 
-ready : Ready sample Dfu (7 ∷ []) []
+ready : Ready sample DfuProtocol.Dfu (7 ∷ []) []
 ready = record { some = omega arith; short = omega arith; sized = omega arith; few = λ e. absurd (true≢false (sym e)); numbered = λ e. absurd (true≢false (sym e)); covered = λ e. absurd (true≢false (sym e)); below = λ e. absurd (true≢false (sym e)) }
 
 abbrev begunPlain : Session
-begunPlain = mk (setupOf sample Dfu 1 0) (fresh (setupOf sample Dfu 1 0)) 99 First
+begunPlain = mk (setupOf sample DfuProtocol.Dfu 1 0) (fresh (setupOf sample DfuProtocol.Dfu 1 0)) 99 Phase.First
 
 abbrev begunDfuse : Session
-begunDfuse = mk (setupOf sample (Dfuse 0) 1 2) (fresh (setupOf sample (Dfuse 0) 1 2)) 99 First
+begunDfuse = mk (setupOf sample (DfuProtocol.Dfuse 0) 1 2) (fresh (setupOf sample (DfuProtocol.Dfuse 0) 1 2)) 99 Phase.First
 
 -- a request that is taken whole, waited for and answered
 abbrev round : ℕ → ℕ → List Answer → List Answer
 round n b more = count n ∷ waited ∷ shows b ∷ more
 
-not-begun : {e : StartError} {s : Session} → Unbegun e ≡ Begun s → ⊥
+not-begun : {e : StartError} {s : Session} → Started.Refused e ≡ Started.Session s → ⊥
 not-begun e = let z : _≡_ {A = ℕ} 0 1 = cc in omega arith
 
-not-over : {e : End} → First ≡ Finished e → ⊥
+not-over : {e : End} → Phase.First ≡ Phase.Finished e → ⊥
 not-over e = let z : _≡_ {A = ℕ} 0 1 = cc in omega arith
 
 -- ALWAYS REFUSING doesn't start
 pub refusing-shut-out : Starts refusing → ⊥
-refusing-shut-out f = let (s, e) = f sample Dfu (7 ∷ []) [] 100 ready (omega arith) in not-begun e
+refusing-shut-out f = let (s, e) = f sample DfuProtocol.Dfu (7 ∷ []) [] 100 ready (omega arith) in not-begun e
 
 -- ten replies, to which neither of these two moves
 abbrev ten : List Answer
@@ -100,7 +94,7 @@ unfolding beginOf begunOf afterBy heededBy FairBy cleared blockCount blocksFor
 fixed-shut-out f =
     let six : 6 ≤ 6 = omega arith in
     let fair : FairBy 0 0 (fixed .told []) begunPlain ten = ((six, tt), ((six, tt), ((six, tt), ((six, tt), ((six, tt), ((six, tt), ((six, tt), ((six, tt), ((six, tt), ((six, tt), tt)))))))))) in
-    not-over ((f sample Dfu (7 ∷ []) [] 0 100 begunPlain ten ready refl fair (omega arith)) .done (omega arith))
+    not-over ((f sample DfuProtocol.Dfu (7 ∷ []) [] 0 100 begunPlain ten ready refl fair (omega arith)) .done (omega arith))
 
 -- DOING NOTHING doesn't finish either
 pub idle-shut-out : Finishing idle → ⊥
@@ -108,13 +102,13 @@ unfolding beginOf begunOf afterBy heededBy FairBy cleared blockCount blocksFor
 idle-shut-out f =
     let six : 6 ≤ 6 = omega arith in
     let fair : FairBy 0 0 (idle .told []) begunPlain ten = ((six, tt), ((six, tt), ((six, tt), ((six, tt), ((six, tt), ((six, tt), ((six, tt), ((six, tt), ((six, tt), ((six, tt), tt)))))))))) in
-    not-over ((f sample Dfu (7 ∷ []) [] 0 100 begunPlain ten ready refl fair (omega arith)) .done (omega arith))
+    not-over ((f sample DfuProtocol.Dfu (7 ∷ []) [] 0 100 begunPlain ten ready refl fair (omega arith)) .done (omega arith))
 
 -- FINISHING AT THE FIRST CALL has not sent the plan
 pub hasty-shut-out : SendsThePlan hasty → ⊥
 unfolding beginOf begunOf afterBy commanded plan leading blocksFor several blockCount
 hasty-shut-out f =
-    let e : [] ≡ planOf sample Dfu (7 ∷ []) [] = f sample Dfu (7 ∷ []) [] 100 begunPlain (waited ∷ []) (omega arith) (omega arith) refl tt in
+    let e : [] ≡ planOf sample DfuProtocol.Dfu (7 ∷ []) [] = f sample DfuProtocol.Dfu (7 ∷ []) [] 100 begunPlain (waited ∷ []) (omega arith) (omega arith) refl tt in
     let n : _≡_ {A = ℕ} 0 2 = ap (λ (x : List Dnload). length x) e in
     omega (arith, n)
 
@@ -122,7 +116,7 @@ hasty-shut-out f =
 pub inventive-shut-out : Spends inventive → ⊥
 unfolding beginOf begunOf afterBy transfers told
 inventive-shut-out f =
-    let e : _≡_ {A = ℕ} 1 100 = f sample Dfu (7 ∷ []) [] 100 begunPlain (waited ∷ []) refl in
+    let e : _≡_ {A = ℕ} 1 100 = f sample DfuProtocol.Dfu (7 ∷ []) [] 100 begunPlain (waited ∷ []) refl in
     omega (arith, e)
 
 -- BLOCKS WITHOUT ASKING FOR STATUS aren't the whole list: six things happen, and two rounds alone are six
@@ -134,14 +128,14 @@ rounds-long t (r ∷ rs) =
       arith,
       rounds-long t rs,
       length-append (roundOf t r) (rounds t rs),
-      length-append (looks (busyAfter (r .command)) (r .busy)) (sends GetStatus ∷ hears (targetAfter t (r .command)) ∷ []),
+      length-append (looks (busyAfter (r .command)) (r .busy)) (sends Request.GetStatus ∷ hears (targetAfter t (r .command)) ∷ []),
     )
 
 pub blind-shut-out : ListsAll blind → ⊥
 unfolding beginOf begunOf afterBy told onFirst onSecond nextOf writeNext tookOf field littleEndian inTime plan leading blocksFor several blockCount
 blind-shut-out f =
-    let v : Listed sample Dfu (7 ∷ []) [] _ =
-    f sample Dfu (7 ∷ []) [] 100 begunPlain (shows 2 ∷ shows 2 ∷ count 1 ∷ count 0 ∷ []) (omega arith) (omega arith) refl tt in
+    let v : Listed sample DfuProtocol.Dfu (7 ∷ []) [] _ =
+    f sample DfuProtocol.Dfu (7 ∷ []) [] 100 begunPlain (shows 2 ∷ shows 2 ∷ count 1 ∷ count 0 ∷ []) (omega arith) (omega arith) refl tt in
     let n : length (v .all) ≡ 2 =
     sym (length-map (v .all) requestOf) ∙ sym (length-map (map requestOf (v .all)) (onWire (7 ∷ []))) ∙ ap (λ (x : List Dnload). length x) (v .requests) in
     let m : 6 ≡ length (opening (v .shown) ++ rounds true (v .all)) = ap (λ (x : List Event). length x) (v .events) in
@@ -151,7 +145,7 @@ blind-shut-out f =
 pub credulous-shut-out : WholeBlocks credulous → ⊥
 unfolding beginOf begunOf afterBy AllAtBy told onFirst onSecond onPoll nextOf writeNext tookOf field littleEndian blockCount
 credulous-shut-out f =
-    let v = f sample Dfu (7 ∷ []) [] 100 begunPlain (shows 2 ∷ shows 2 ∷ round 0 5 (round 0 2 [])) refl tt in
+    let v = f sample DfuProtocol.Dfu (7 ∷ []) [] 100 begunPlain (shows 2 ∷ shows 2 ∷ round 0 5 (round 0 2 [])) refl tt in
     let n : _≡_ {A = ℕ} 0 1 = v .1 .1 .0 in
     omega (arith, n)
 
@@ -170,7 +164,7 @@ pub numbered-from-three-shut-out : SendsThePlan numberedFromThree → ⊥
 unfolding beginOf begunOf afterBy commanded told onFirst onSecond onPoll eraseNext writeNext nextOf tookOf field littleEndian bytesLow covering plan leading blocksFor erasing several blockOf blockCount numbersOf
 numbered-from-three-shut-out f =
     let e =
-    f sample (Dfuse 0) (7 ∷ []) (1 ∷ 1 ∷ []) 100 _ (dfuseAnswers lastAnswers) (omega arith) (omega arith) refl tt in
+    f sample (DfuProtocol.Dfuse 0) (7 ∷ []) (1 ∷ 1 ∷ []) 100 _ (dfuseAnswers lastAnswers) (omega arith) (omega arith) refl tt in
     let n : _≡_ {A = ℕ} 3 2 = ap (λ (x : List Dnload). getD (numbersOf x) 2 0) e in
     omega (arith, n)
 
@@ -179,7 +173,7 @@ pub one-page-more-shut-out : SendsThePlan onePageMore → ⊥
 unfolding beginOf begunOf afterBy commanded told onFirst onSecond onPoll eraseNext writeNext nextOf tookOf field littleEndian bytesLow covering plan leading blocksFor erasing several blockOf blockCount
 one-page-more-shut-out f =
     let e =
-    f sample (Dfuse 0) (7 ∷ []) (1 ∷ 1 ∷ []) 100 begunDfuse (dfuseAnswers (round 5 5 lastAnswers)) (omega arith) (omega arith) refl tt in
+    f sample (DfuProtocol.Dfuse 0) (7 ∷ []) (1 ∷ 1 ∷ []) 100 begunDfuse (dfuseAnswers (round 5 5 lastAnswers)) (omega arith) (omega arith) refl tt in
     let n : _≡_ {A = ℕ} 5 4 = ap (λ (x : List Dnload). length x) e in
     omega (arith, n)
 
@@ -188,6 +182,6 @@ pub address-twice-shut-out : SendsThePlan addressTwice → ⊥
 unfolding beginOf begunOf afterBy commanded told onFirst onSecond onPoll eraseNext writeNext nextOf tookOf field littleEndian bytesLow covering plan leading blocksFor erasing several blockOf blockCount
 address-twice-shut-out f =
     let e =
-    f sample (Dfuse 0) (7 ∷ []) (1 ∷ 1 ∷ []) 100 begunDfuse (dfuseAnswers (round 5 5 lastAnswers)) (omega arith) (omega arith) refl tt in
+    f sample (DfuProtocol.Dfuse 0) (7 ∷ []) (1 ∷ 1 ∷ []) 100 begunDfuse (dfuseAnswers (round 5 5 lastAnswers)) (omega arith) (omega arith) refl tt in
     let n : _≡_ {A = ℕ} 5 4 = ap (λ (x : List Dnload). length x) e in
     omega (arith, n)

@@ -8,26 +8,24 @@ use lib.ListN.{length, take, drop, length-drop}
 use lib.Seq.{take-all}
 use lib.Dec.{leb}
 use borrow.Author.Tests.{leb-true, leb-false, le-leb}
-use Rattle.ground.specs.Pick.{pick}
-use Rattle.work.specs.Work.{blockCount}
-use Rattle.download.specs.Download.{covering}
-use Rattle.wire.specs.declared.Command.the-variants.{Erase, SetAddress, Empty}
-use Rattle.work.specs.declared.Setup.{Setup}
 use Rattle.papers.specs.Requests.{DFU_DNLOAD}
 use Rattle.papers.specs.Dfuse.{eraseCommand, setAddressCommand}
 use Rattle.papers.specs.Plan.{Dnload, dnload, erasing, several, blockNumber, bytesOf, blockOf, plan, pagesFor}
-use Rattle.plan.proofs.Agree.{pages-agree, blocks-agree}
-use Rattle.work.proofs.Fills.{blocks-within}
 use Rattle.papers.proofs.Numbers.{block-length}
+use Rattle.work.specs.Work.{blockCount}
+use Rattle.work.proofs.Fills.{blocks-within}
+use Rattle.download.specs.Download.{covering}
+use Rattle.plan.proofs.Agree.{pages-agree, blocks-agree}
 use Rattle.plan.specs.Sent.{onWire}
 use Rattle.plan.proofs.Wire.{erase-command, address-command}
+use Rattle.promises.specs.Words.{pick, Command, Setup}
 use Rattle.promises.proofs.Wanted.{erases, blockAt, blocksOf, prepared, wanted}
 
 -- each kind of request
-erase-onWire : (fw : List ℕ) (a : ℕ) → onWire fw (Erase a) ≡ dnload 0 (eraseCommand a)
+erase-onWire : (fw : List ℕ) (a : ℕ) → onWire fw (Command.Erase a) ≡ dnload 0 (eraseCommand a)
 erase-onWire fw a = ap (λ (b : List ℕ). record { setup = DFU_DNLOAD 0 5; bytes = b }) (erase-command a fw [])
 
-address-onWire : (fw : List ℕ) (a : ℕ) → onWire fw (SetAddress a) ≡ dnload 0 (setAddressCommand a)
+address-onWire : (fw : List ℕ) (a : ℕ) → onWire fw (Command.SetAddress a) ≡ dnload 0 (setAddressCommand a)
 address-onWire fw a = ap (λ (b : List ℕ). record { setup = DFU_DNLOAD 0 5; bytes = b }) (address-command a fw [])
 
 pub take-min : (a : ℕ) (l : List ℕ) → take (min a (length l)) l ≡ take a l
@@ -80,11 +78,11 @@ unfolding prepared
 prepared-onWire fw su ps h = by (su .dfuse)
   where
     by : (b : Bool)
-        → map (onWire fw) (pick b (erases (su .address) (covering (su .length) ps) ++ (SetAddress (su .address) ∷ [])) [])
+        → map (onWire fw) (pick b (erases (su .address) (covering (su .length) ps) ++ (Command.SetAddress (su .address) ∷ [])) [])
         ≡ pick b (erasing (su .address) (pagesFor (length fw) ps) ++ (dnload 0 (setAddressCommand (su .address)) ∷ [])) []
     by true =
-        map-append (onWire fw) (erases (su .address) (covering (su .length) ps)) (SetAddress (su .address) ∷ [])
-        ∙ ap (λ (x : List Dnload). x ++ (onWire fw (SetAddress (su .address)) ∷ [])) (erases-onWire fw (su .address) (covering (su .length) ps))
+        map-append (onWire fw) (erases (su .address) (covering (su .length) ps)) (Command.SetAddress (su .address) ∷ [])
+        ∙ ap (λ (x : List Dnload). x ++ (onWire fw (Command.SetAddress (su .address)) ∷ [])) (erases-onWire fw (su .address) (covering (su .length) ps))
         ∙ ap (λ (x : Dnload). erasing (su .address) (covering (su .length) ps) ++ (x ∷ [])) (address-onWire fw (su .address))
         ∙ ap (λ (n : ℕ). erasing (su .address) (covering n ps) ++ (dnload 0 (setAddressCommand (su .address)) ∷ [])) (sym h)
         ∙ ap (λ (x : List ℕ). erasing (su .address) x ++ (dnload 0 (setAddressCommand (su .address)) ∷ [])) (sym (pages-agree (length fw) ps))
@@ -95,10 +93,10 @@ pub wanted-plan : (fw : List ℕ) (su : Setup) (ps : List ℕ) → length fw ≡
     → map (onWire fw) (wanted su ps) ≡ plan (su .dfuse) (su .address) (su .size) fw ps
 unfolding wanted plan
 wanted-plan fw su ps h k =
-    map-append (onWire fw) (prepared su ps) (several (blockAt su) 0 (blocksOf su) ++ (Empty (blockNumber (su .dfuse) (blocksOf su)) ∷ []))
-    ∙ ap (λ (x : List Dnload). x ++ map (onWire fw) (several (blockAt su) 0 (blocksOf su) ++ (Empty (blockNumber (su .dfuse) (blocksOf su)) ∷ []))) (prepared-onWire fw su ps h)
+    map-append (onWire fw) (prepared su ps) (several (blockAt su) 0 (blocksOf su) ++ (Command.Empty (blockNumber (su .dfuse) (blocksOf su)) ∷ []))
+    ∙ ap (λ (x : List Dnload). x ++ map (onWire fw) (several (blockAt su) 0 (blocksOf su) ++ (Command.Empty (blockNumber (su .dfuse) (blocksOf su)) ∷ []))) (prepared-onWire fw su ps h)
     ∙ ap (λ (x : List Dnload). front ++ x)
-    (map-append (onWire fw) (several (blockAt su) 0 (blocksOf su)) (Empty (blockNumber (su .dfuse) (blocksOf su)) ∷ [])
+    (map-append (onWire fw) (several (blockAt su) 0 (blocksOf su)) (Command.Empty (blockNumber (su .dfuse) (blocksOf su)) ∷ [])
     ∙ ap (λ (x : List Dnload). x ++ (dnload (blockNumber (su .dfuse) (blocksOf su)) [] ∷ [])) (blocks-onWire fw su 0 (blocksOf su) h k (omega arith))
     ∙ ap (λ (n : ℕ). several (blockOf (su .dfuse) (su .size) fw) 0 (blockCount n (su .size)) ++ (dnload (blockNumber (su .dfuse) (blockCount n (su .size))) [] ∷ [])) (sym h)
     ∙ ap (λ (c : ℕ). several (blockOf (su .dfuse) (su .size) fw) 0 c ++ (dnload (blockNumber (su .dfuse) c) [] ∷ [])) (sym (blocks-agree (length fw) (su .size))))

@@ -7,20 +7,14 @@ use mathlib.Core.Bool.{true, false}
 use mathlib.Core.List.{List, [], _∷_}
 use lib.ListN.{length}
 use Rattle.ground.specs.Bytes.{littleEndian, field}
-use Rattle.protocol.specs.declared.DfuProtocol.the-variants.{Dfuse}
-use Rattle.machine.specs.Machine.{onFirst, onSecond, onPoll}
-use Rattle.session.specs.Told.{Answer, count, reply, waited, mk, told}
-use Rattle.work.specs.Work.{blockCount}
-use Rattle.download.specs.Download.{download, covering, eraseNext, writeNext, nextOf, tookOf}
-use Rattle.start.specs.Start.{setupOf, fresh, begunOf, beginOf}
-use Rattle.work.specs.declared.Error.the-variants.{BudgetSpent}
-use Rattle.work.specs.declared.End.the-variants.{Stays}
-use Rattle.machine.specs.declared.Phase.the-variants.{First, Finished, Refused}
-use Rattle.session.specs.declared.Session.{Session}
-use Rattle.start.specs.declared.DfuSansIo.{DfuSansIo}
 use Rattle.papers.specs.Plan.{leading, blocksFor}
-use Rattle.promises.specs.Run.{opened, after, afterBy, transfers, cleared}
+use Rattle.work.specs.Work.{blockCount}
+use Rattle.download.specs.Download.{covering, eraseNext, writeNext, nextOf, tookOf}
+use Rattle.machine.specs.Machine.{onFirst, onSecond, onPoll}
+use Rattle.start.specs.Start.{begunOf, beginOf}
 use Rattle.plan.specs.Sent.{Begins}
+use Rattle.promises.specs.Words.{DfuProtocol, End, Error, download, Phase, Session, Answer, count, reply, waited, mk, told, DfuSansIo, setupOf, fresh}
+use Rattle.promises.specs.Run.{opened, after, afterBy, transfers, cleared}
 use Rattle.promises.specs.Samples.{deviceOf, shows}
 use Rattle.promises.specs.Fair.{Fair, FairBy, requestsOf, bound}
 
@@ -32,7 +26,7 @@ abbrev pages : List ℕ
 pages = 1 ∷ 1 ∷ []
 
 abbrev begunWith : ℕ → Session
-begunWith l = mk (setupOf counter (Dfuse 0) 1 2) (fresh (setupOf counter (Dfuse 0) 1 2)) l First
+begunWith l = mk (setupOf counter (DfuProtocol.Dfuse 0) 1 2) (fresh (setupOf counter (DfuProtocol.Dfuse 0) 1 2)) l Phase.First
 
 -- a request, two busy replies, the target
 abbrev slow : ℕ → ℕ → ℕ → List Answer → List Answer
@@ -42,7 +36,7 @@ slow n busy target more = count n ∷ waited ∷ shows busy ∷ waited ∷ shows
 abbrev answers : List Answer
 answers = reply (3 ∷ 0 ∷ 0 ∷ 0 ∷ 10 ∷ 0 ∷ []) ∷ count 0 ∷ shows 2 ∷ slow 5 4 5 (slow 5 4 5 (slow 1 4 5 (slow 0 7 2 [])))
 
-pub reached-begins : Begins counter (Dfuse 0) (7 ∷ []) pages 19 (begunWith 18) × Begins counter (Dfuse 0) (7 ∷ []) pages 18 (begunWith 17)
+pub reached-begins : Begins counter (DfuProtocol.Dfuse 0) (7 ∷ []) pages 19 (begunWith 18) × Begins counter (DfuProtocol.Dfuse 0) (7 ∷ []) pages 18 (begunWith 17)
 unfolding beginOf begunOf blockCount
 reached-begins = (refl, refl)
 
@@ -127,22 +121,22 @@ reached-fair =
     )
 
 -- EXACTLY THE BOUND, with one clear
-pub bound-reached : length (transfers ((after (download pages) (opened (begunWith 18)) answers) .past)) ≡ bound 2 1 (requestsOf counter (Dfuse 0) (7 ∷ []) pages)
+pub bound-reached : length (transfers ((after (download pages) (opened (begunWith 18)) answers) .past)) ≡ bound 2 1 (requestsOf counter (DfuProtocol.Dfuse 0) (7 ∷ []) pages)
 unfolding afterBy transfers told onFirst onSecond onPoll eraseNext writeNext nextOf tookOf field littleEndian covering blockCount leading blocksFor
 bound-reached =
     let spent : length (transfers ((after (download pages) (opened (begunWith 18)) answers) .past)) ≡ 19 = refl in
-    let most : 19 ≡ bound 2 1 (requestsOf counter (Dfuse 0) (7 ∷ []) pages) = refl in
+    let most : 19 ≡ bound 2 1 (requestsOf counter (DfuProtocol.Dfuse 0) (7 ∷ []) pages) = refl in
     spent ∙ most
 
 pub reached-clears : cleared ((after (download pages) (opened (begunWith 18)) answers) .past) ≡ 1
 unfolding afterBy cleared told onFirst onSecond onPoll eraseNext writeNext nextOf tookOf field littleEndian blockCount
 reached-clears = refl
 
-pub reached-finishes : (after (download pages) (opened (begunWith 18)) answers) .session .phase ≡ Finished Stays
+pub reached-finishes : (after (download pages) (opened (begunWith 18)) answers) .session .phase ≡ Phase.Finished End.Stays
 unfolding afterBy told onFirst onSecond onPoll eraseNext writeNext nextOf tookOf field littleEndian blockCount
 reached-finishes = refl
 
 -- ONE LESS is 23
-pub one-less-is-spent : (after (download pages) (opened (begunWith 17)) answers) .session .phase ≡ Refused BudgetSpent
+pub one-less-is-spent : (after (download pages) (opened (begunWith 17)) answers) .session .phase ≡ Phase.Refused Error.BudgetSpent
 unfolding afterBy told onFirst onSecond onPoll eraseNext writeNext nextOf tookOf field littleEndian blockCount
 one-less-is-spent = refl

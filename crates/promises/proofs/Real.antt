@@ -9,35 +9,17 @@ use lib.Dec.{eqb, ltb}
 use lib.ListN.{length}
 use borrow.Author.Tests.{eq-eqb, le-ltb}
 use Rattle.ground.specs.Bytes.{bytesLow}
-use Rattle.ground.specs.Pick.{pick}
 use Rattle.ground.proofs.Tests.{picked}
-use Rattle.work.specs.Work.{Work}
-use Rattle.machine.specs.declared.Moved.{Moved}
-use Rattle.machine.specs.Machine.{asksAt}
-use Rattle.session.specs.Told.{Answer, count, reply, waited, wasReset, failed, mk, awaitReply, awaitCount, awaitWait, awaitReset, toldAt, told}
 use Rattle.wire.specs.Wire.{filledFor, requestData}
-use Rattle.download.specs.Download.{download}
+use Rattle.machine.specs.Machine.{asksAt}
+use Rattle.session.specs.Told.{awaitReply, awaitCount, awaitWait, awaitReset, toldAt}
 use Rattle.session.specs.Calls.{asAtStart, guardOf, through, called, filledBy, callOf, askData, dataOf}
-use Rattle.wire.specs.declared.Command.the-variants.{Erase, SetAddress, Block, Empty}
-use Rattle.wire.specs.declared.Request.{Request}
-use Rattle.wire.specs.declared.Request.the-variants.{GetStatus, ClearStatus, Command as Commands}
-use Rattle.work.specs.declared.Wait.the-variants.{Pause, Poll}
-use Rattle.work.specs.declared.Error.{Error}
-use Rattle.work.specs.declared.Error.the-variants.{NotAwaited}
 use Rattle.session.specs.declared.Guard.{Guard}
-use Rattle.session.specs.declared.Guard.the-variants.{Open}
-use Rattle.machine.specs.declared.Phase.{Phase}
-use Rattle.machine.specs.declared.Phase.the-variants.{First, Clear, Second, Sent, Waiting, Resetting, Finished, Refused}
-use Rattle.work.specs.declared.Progress.{Progress}
-use Rattle.work.specs.declared.Setup.{Setup}
-use Rattle.session.specs.declared.Session.{Session}
-use Rattle.machine.specs.declared.Ask.{Ask}
-use Rattle.machine.specs.declared.Ask.the-variants.{Transfer, Refused as SaysNo}
-use Rattle.session.specs.declared.Step.{Step}
+use Rattle.plan.proofs.Wire.{erase-command, address-command}
+use Rattle.promises.specs.Words.{pick, Command, Request, Setup, Progress, Wait, Error, Work, download, Phase, Moved, Ask, Session, Step, Answer, count, reply, waited, wasReset, failed, mk, told}
 use Rattle.promises.specs.Run.{Event, sentBy, World, tell, after, afterBy}
 use Rattle.promises.specs.Calls.{Call, outcome, heardThrough, call, calls, Lends, AllLend, rightly, passed, AllPass, answers}
 use Rattle.promises.proofs.Steady.{tell-setup}
-use Rattle.plan.proofs.Wire.{erase-command, address-command}
 
 -- lent as at start
 lent-as-at-start : (su : Setup) (fw ps : List ℕ) (c : Call) → su .length ≡ length fw → su .pages ≡ length ps → Lends fw ps c
@@ -59,16 +41,16 @@ worldBy su pr l p h c g = record {
 
 call-at : (su : Setup) (pr : Progress) (l : ℕ) (p : Phase) (h : List Event) (c : Call)
     → asAtStart su (length (c .firmware)) (length (c .pages)) (length (c .command)) ≡ true
-    → worldBy su pr l p h c (guardOf (mk su pr l p) (length (c .firmware)) (length (c .pages)) (length (c .command))) ≡ worldBy su pr l p h c Open
+    → worldBy su pr l p h c (guardOf (mk su pr l p) (length (c .firmware)) (length (c .pages)) (length (c .command))) ≡ worldBy su pr l p h c Guard.Open
 unfolding guardOf
-call-at su pr l First h c e = rw e
-call-at su pr l Clear h c e = rw e
-call-at su pr l Second h c e = rw e
-call-at su pr l (Sent d) h c e = rw e
-call-at su pr l (Waiting y) h c e = rw e
-call-at su pr l Resetting h c e = rw e
-call-at su pr l (Finished y) h c e = refl
-call-at su pr l (Refused y) h c e = refl
+call-at su pr l Phase.First h c e = rw e
+call-at su pr l Phase.Clear h c e = rw e
+call-at su pr l Phase.Second h c e = rw e
+call-at su pr l (Phase.Sent d) h c e = rw e
+call-at su pr l (Phase.Waiting y) h c e = rw e
+call-at su pr l Phase.Resetting h c e = rw e
+call-at su pr l (Phase.Finished y) h c e = refl
+call-at su pr l (Phase.Refused y) h c e = refl
 
 call-tells : (x : World) (c : Call) → asAtStart (x .session .setup) (length (c .firmware)) (length (c .pages)) (length (c .command)) ≡ true
     → call x c ≡ tell (download (c .pages)) x (c .answer)
@@ -95,14 +77,14 @@ module _ (fw ps : List ℕ) where
 shut-at : (su : Setup) (pr : Progress) (l : ℕ) (p : Phase) (h : List Event) (c : Call) → rightly su c ≡ false
     → worldBy su pr l p h c (guardOf (mk su pr l p) (length (c .firmware)) (length (c .pages)) (length (c .command))) ≡ record { session = mk su pr l p; past = h }
 unfolding guardOf
-shut-at su pr l First h c e = rw e
-shut-at su pr l Clear h c e = rw e
-shut-at su pr l Second h c e = rw e
-shut-at su pr l (Sent d) h c e = rw e
-shut-at su pr l (Waiting y) h c e = rw e
-shut-at su pr l Resetting h c e = rw e
-shut-at su pr l (Finished y) h c e = refl
-shut-at su pr l (Refused y) h c e = refl
+shut-at su pr l Phase.First h c e = rw e
+shut-at su pr l Phase.Clear h c e = rw e
+shut-at su pr l Phase.Second h c e = rw e
+shut-at su pr l (Phase.Sent d) h c e = rw e
+shut-at su pr l (Phase.Waiting y) h c e = rw e
+shut-at su pr l Phase.Resetting h c e = rw e
+shut-at su pr l (Phase.Finished y) h c e = refl
+shut-at su pr l (Phase.Refused y) h c e = refl
 
 call-shut : (x : World) (c : Call) → rightly (x .session .setup) c ≡ false → call x c ≡ x
 unfolding callOf called told
@@ -130,7 +112,7 @@ passed-run ps x (c ∷ more) v =
 
 -- what a call answers: what the next session asks, or 24
 abbrev pub Answers : Step → Type 0
-Answers x = (x .says ≡ asksAt (x .next .phase)) ⊎ (x .says ≡ SaysNo NotAwaited)
+Answers x = (x .says ≡ asksAt (x .next .phase)) ⊎ (x .says ≡ Ask.Refused Error.NotAwaited)
 
 reply-answers : (s : Session) (f : List ℕ → Moved) (a : Answer) → Answers (awaitReply s f a)
 reply-answers s f (count n) = inr refl
@@ -161,15 +143,15 @@ reset-answers s m wasReset = inl refl
 reset-answers s m failed = inl refl
 
 answersAt : (w : Work) (su : Setup) (pr : Progress) (l : ℕ) (p : Phase) (a : Answer) → Answers (toldAt w su pr l p a)
-answersAt w su pr l First a = reply-answers _ _ a
-answersAt w su pr l Clear a = count-answers _ _ a
-answersAt w su pr l Second a = reply-answers _ _ a
-answersAt w su pr l (Sent c) a = count-answers _ _ a
-answersAt w su pr l (Waiting (Pause b t ms)) a = wait-answers _ _ a
-answersAt w su pr l (Waiting (Poll b t)) a = reply-answers _ _ a
-answersAt w su pr l Resetting a = reset-answers _ _ a
-answersAt w su pr l (Finished e) a = inl refl
-answersAt w su pr l (Refused e) a = inl refl
+answersAt w su pr l Phase.First a = reply-answers _ _ a
+answersAt w su pr l Phase.Clear a = count-answers _ _ a
+answersAt w su pr l Phase.Second a = reply-answers _ _ a
+answersAt w su pr l (Phase.Sent c) a = count-answers _ _ a
+answersAt w su pr l (Phase.Waiting (Wait.Pause b t ms)) a = wait-answers _ _ a
+answersAt w su pr l (Phase.Waiting (Wait.Poll b t)) a = reply-answers _ _ a
+answersAt w su pr l Phase.Resetting a = reset-answers _ _ a
+answersAt w su pr l (Phase.Finished e) a = inl refl
+answersAt w su pr l (Phase.Refused e) a = inl refl
 
 pub answers-told : (w : Work) (s : Session) (a : Answer) → Answers (told w s a)
 unfolding told
@@ -181,14 +163,14 @@ stepAt : (su : Setup) (pr : Progress) (l : ℕ) (p : Phase) (c : Call)
     → through (guardOf (mk su pr l p) (length (c .firmware)) (length (c .pages)) (length (c .command))) (mk su pr l p) (toldAt (download (c .pages)) su pr l p (c .answer))
     ≡ toldAt (download (c .pages)) su pr l p (c .answer)
 unfolding guardOf
-stepAt su pr l First c e = rw e
-stepAt su pr l Clear c e = rw e
-stepAt su pr l Second c e = rw e
-stepAt su pr l (Sent d) c e = rw e
-stepAt su pr l (Waiting y) c e = rw e
-stepAt su pr l Resetting c e = rw e
-stepAt su pr l (Finished y) c e = refl
-stepAt su pr l (Refused y) c e = refl
+stepAt su pr l Phase.First c e = rw e
+stepAt su pr l Phase.Clear c e = rw e
+stepAt su pr l Phase.Second c e = rw e
+stepAt su pr l (Phase.Sent d) c e = rw e
+stepAt su pr l (Phase.Waiting y) c e = rw e
+stepAt su pr l Phase.Resetting c e = rw e
+stepAt su pr l (Phase.Finished y) c e = refl
+stepAt su pr l (Phase.Refused y) c e = refl
 
 module _ (fw ps : List ℕ) (s : Session) (c : Call) (k : For fw ps (s .setup)) (v : Lends fw ps c) where
   pub same-step : (outcome s c) .step ≡ told (download ps) s (c .answer)
@@ -200,38 +182,38 @@ module _ (fw ps : List ℕ) (s : Session) (c : Call) (k : For fw ps (s .setup)) 
 -- the five command bytes are filled, and none is lost
 filled-length : (q : Request) (cmd : List ℕ) → 5 ≤ length cmd → 5 ≤ length (filledFor q cmd)
 unfolding bytesLow
-filled-length GetStatus cmd h = h
-filled-length ClearStatus cmd h = h
-filled-length (Commands (Erase a)) cmd h = omega arith
-filled-length (Commands (SetAddress a)) cmd h = omega arith
-filled-length (Commands (Block n f m)) cmd h = h
-filled-length (Commands (Empty n)) cmd h = h
+filled-length Request.GetStatus cmd h = h
+filled-length Request.ClearStatus cmd h = h
+filled-length (Request.Command (Command.Erase a)) cmd h = omega arith
+filled-length (Request.Command (Command.SetAddress a)) cmd h = omega arith
+filled-length (Request.Command (Command.Block n f m)) cmd h = h
+filled-length (Request.Command (Command.Empty n)) cmd h = h
 
 -- whatever bytes were lent, a request's data is the same
 request-data : (q : Request) (fw cmd : List ℕ) → requestData q fw (filledFor q cmd) ≡ requestData q fw (filledFor q [])
-request-data GetStatus fw cmd = refl
-request-data ClearStatus fw cmd = refl
-request-data (Commands (Erase a)) fw cmd = erase-command a fw cmd ∙ sym (erase-command a fw [])
-request-data (Commands (SetAddress a)) fw cmd = address-command a fw cmd ∙ sym (address-command a fw [])
-request-data (Commands (Block n f m)) fw cmd = refl
-request-data (Commands (Empty n)) fw cmd = refl
+request-data Request.GetStatus fw cmd = refl
+request-data Request.ClearStatus fw cmd = refl
+request-data (Request.Command (Command.Erase a)) fw cmd = erase-command a fw cmd ∙ sym (erase-command a fw [])
+request-data (Request.Command (Command.SetAddress a)) fw cmd = address-command a fw cmd ∙ sym (address-command a fw [])
+request-data (Request.Command (Command.Block n f m)) fw cmd = refl
+request-data (Request.Command (Command.Empty n)) fw cmd = refl
 
 -- a transfer that a call answers is what the next session asks
-asks-transfer : (x : Step) (q : Request) → Answers x → x .says ≡ Transfer q → asksAt (x .next .phase) ≡ Transfer q
+asks-transfer : (x : Step) (q : Request) → Answers x → x .says ≡ Ask.Transfer q → asksAt (x .next .phase) ≡ Ask.Transfer q
 asks-transfer x q (inl e) z = sym e ∙ z
 asks-transfer x q (inr e) z = absurd (not-no (sym e ∙ z))
   where
-    not-no : {d : Error} → SaysNo d ≡ Transfer q → ⊥
+    not-no : {d : Error} → Ask.Refused d ≡ Ask.Transfer q → ⊥
     not-no e = let z : _≡_ {A = ℕ} 0 1 = cc in omega arith
 
 -- WHAT `data` HANDS OVER after a call, lent the command bytes as the call left them, is the request's data
 module _ (fw ps : List ℕ) (s : Session) (c : Call) (k : For fw ps (s .setup)) (v : Lends fw ps c) (q : Request) where
-  pub data-handed : (outcome s c) .step .says ≡ Transfer q → dataOf ((outcome s c) .step .next) fw ((outcome s c) .command) ≡ requestData q fw (filledFor q [])
+  pub data-handed : (outcome s c) .step .says ≡ Ask.Transfer q → dataOf ((outcome s c) .step .next) fw ((outcome s c) .command) ≡ requestData q fw (filledFor q [])
   unfolding dataOf callOf
   data-handed z =
       let n : Session = (outcome s c) .step .next in
       let step : (outcome s c) .step ≡ told (download ps) s (c .answer) = same-step fw ps s c k v in
-      let asks : asksAt (n .phase) ≡ Transfer q = asks-transfer ((outcome s c) .step) q (subst Answers (sym step) (answers-told (download ps) s (c .answer))) z in
+      let asks : asksAt (n .phase) ≡ Ask.Transfer q = asks-transfer ((outcome s c) .step) q (subst Answers (sym step) (answers-told (download ps) s (c .answer))) z in
       let kept : n .setup ≡ s .setup = ap (λ (x : Step). x .next .setup) step ∙ tell-setup (download ps) (record { session = s; past = [] }) (c .answer) in
       let bytes : (outcome s c) .command ≡ filledFor q (c .command) = ap (λ (x : Ask). filledBy x (c .command)) z in
       let e₁ : eqb (length fw) (n .setup .length) ≡ true = eq-eqb _ _ (sym (ap (λ (x : Setup). x .length) kept ∙ k .0)) in

@@ -10,20 +10,13 @@ use lib.ListN.{length, drop, getD, drop-of-length-le}
 use lib.Seq.{drop-cons}
 use lib.Dec.{ltb}
 use borrow.Author.Tests.{ltb-true, ltb-false}
-use Rattle.ground.specs.Pick.{pick}
 use Rattle.ground.proofs.Tests.{picked}
-use Rattle.protocol.specs.declared.DfuProtocol.{DfuProtocol}
-use Rattle.work.specs.Work.{limit, endOf}
-use Rattle.download.specs.Download.{covering, passed, eraseNext, writeNext, nextAt, nextOf, tookOf, download}
-use Rattle.start.specs.Start.{dfuseb, targetOf, setupOf, fresh}
-use Rattle.work.specs.declared.Stage.{Stage}
-use Rattle.work.specs.declared.Stage.the-variants.{Erasing, Writing, Ending}
-use Rattle.work.specs.declared.Progress.{Progress}
-use Rattle.work.specs.declared.Setup.{Setup}
-use Rattle.work.specs.declared.Todo.{Todo}
-use Rattle.start.specs.declared.DfuSansIo.{DfuSansIo}
 use Rattle.papers.specs.Plan.{sum}
+use Rattle.work.specs.Work.{limit, endOf}
+use Rattle.download.specs.Download.{covering, passed, eraseNext, writeNext, nextAt, nextOf, tookOf}
+use Rattle.start.specs.Start.{dfuseb, targetOf}
 use Rattle.plan.proofs.Pages.{covering-more, sum-covering}
+use Rattle.promises.specs.Words.{pick, DfuProtocol, Setup, Progress, Stage, Todo, download, DfuSansIo, setupOf, fresh}
 use Rattle.promises.specs.Fair.{Ready}
 use Rattle.promises.proofs.Wanted.{left, heads}
 use Rattle.promises.proofs.Lives.{Wants, Thrives}
@@ -34,9 +27,9 @@ EraseRoom ps su pr =
     × (pr .erased + sum (covering (endOf su - pr .erased) (drop (pr .page) ps)) < limit)
 
 abbrev pub roomAt : Stage → List ℕ → Setup → Progress → Type 0
-roomAt Erasing ps su pr = EraseRoom ps su pr
-roomAt Writing ps su pr = Unit
-roomAt Ending ps su pr = Unit
+roomAt Stage.Erasing ps su pr = EraseRoom ps su pr
+roomAt Stage.Writing ps su pr = Unit
+roomAt Stage.Ending ps su pr = Unit
 
 abbrev pub room : List ℕ → Setup → Progress → Type 0
 room ps su pr = roomAt (pr .stage) ps su pr
@@ -62,7 +55,7 @@ cover-left ps i n h k =
 
 wantsAt : (st : Stage) (ps : List ℕ) (su : Setup) (pr : Progress) → roomAt st ps su pr → Wants (download ps) (room ps su) su (nextAt st ps su pr)
 unfolding tookOf eraseNext writeNext
-wantsAt Erasing ps su pr v =
+wantsAt Stage.Erasing ps su pr v =
     picked P (ltb (pr .erased) (endOf su)) _ _
     (λ e. picked P (ltb (pr .page) (length ps)) _ _
     (λ f. picked P (ltb (pr .erased + getD ps (pr .page) 0) limit) _ _
@@ -86,8 +79,8 @@ wantsAt Erasing ps su pr v =
           omega (arith, v .0, sum-left ps (pr .page) f),
           rw (← z) (omega (arith, v .1, cover-left ps (pr .page) (endOf su - pr .erased) f (omega arith))),
         )
-wantsAt Writing ps su pr v = picked (λ (t : Todo). Wants (download ps) (room ps su) su t) (ltb (pr .accepted) (su .length)) _ _ (λ e. tt) (λ e. tt)
-wantsAt Ending ps su pr v = tt
+wantsAt Stage.Writing ps su pr v = picked (λ (t : Todo). Wants (download ps) (room ps su) su t) (ltb (pr .accepted) (su .length)) _ _ (λ e. tt) (λ e. tt)
+wantsAt Stage.Ending ps su pr v = tt
 
 -- THE DOWNLOAD THRIVES WHERE THERE IS ROOM
 pub thrives : (ps : List ℕ) (su : Setup) → 0 < su .size → Thrives (download ps) su (left ps su) (room ps su)
@@ -103,7 +96,7 @@ fresh-room io p fw ps r = by (dfuseb p) refl
     su = setupOf io p (length fw) (length ps)
 
     by : (b : Bool) → dfuseb p ≡ b
-        → roomAt (pick b Erasing Writing) ps (setupOf io p (length fw) (length ps)) (fresh (setupOf io p (length fw) (length ps)))
+        → roomAt (pick b Stage.Erasing Stage.Writing) ps (setupOf io p (length fw) (length ps)) (fresh (setupOf io p (length fw) (length ps)))
     by true d =
         let a : ℕ = targetOf p (io .«override_address») in
         let y : pick (dfuseb p) a 0 ≡ a = rw d in

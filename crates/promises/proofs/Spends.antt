@@ -4,12 +4,7 @@ use native.Mathlib.Omega.{arith}
 use mathlib.Core.Path.{_≡_}
 use mathlib.Core.List.{List, [], _∷_}
 use lib.ListN.{length, length-append}
-use Rattle.work.specs.Work.{Work}
-use Rattle.session.specs.Told.{Answer}
-use Rattle.wire.specs.declared.Request.{Request}
-use Rattle.work.specs.declared.Setup.{Setup}
-use Rattle.work.specs.declared.Todo.{Todo}
-use Rattle.work.specs.declared.Todo.the-variants.{Send, End as Ends, Refuse}
+use Rattle.promises.specs.Words.{Request, Setup, Todo, Work, Answer}
 use Rattle.promises.specs.Run.{Event, sends, World, tell, after, afterBy, transfers}
 use Rattle.promises.proofs.Steady.{KeptBy, Steady, tell-steady}
 
@@ -22,9 +17,9 @@ unfolding transfers
 one-more n l h q v = omega (arith, v, length-append (transfers h) (q ∷ []))
 
 any-wish : (n : ℕ) (t : Todo) → KeptBy (Adds n) t
-any-wish n (Send c then) = λ l h v. one-more n l h _ v
-any-wish n (Ends e) = tt
-any-wish n (Refuse e) = tt
+any-wish n (Todo.Send c then) = λ l h v. one-more n l h _ v
+any-wish n (Todo.End e) = tt
+any-wish n (Todo.Refuse e) = tt
 
 adds : (n : ℕ) (w : Work) (su : Setup) → Steady (Adds n) w su
 unfolding transfers

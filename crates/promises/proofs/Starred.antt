@@ -3,15 +3,15 @@ use mathlib.Core.Path.{_≡_, refl}
 use mathlib.Core.List.{map}
 use Rattle.ground.specs.Text.{codes}
 use Rattle.ground.specs.Bytes.{littleEndian, field, prefix}
+use Rattle.papers.specs.Plan.{sum}
 use Rattle.number.specs.Number.{readOn, numberOf}
 use Rattle.memory_layout.specs.Layout.{upTo, endOf, split, scaled, starred, pieceOf, pieces, checked, sizes}
 use Rattle.protocol.specs.Interface.{rsplit, addressOf, dfuseOf, interfaceOf}
-use Rattle.machine.specs.Machine.{onFirst, onSecond, onPoll}
-use Rattle.session.specs.Told.{told}
 use Rattle.work.specs.Work.{blockCount}
 use Rattle.download.specs.Download.{eraseNext, writeNext, nextOf, tookOf}
+use Rattle.machine.specs.Machine.{onFirst, onSecond, onPoll}
 use Rattle.start.specs.Start.{begunOf, beginOf}
-use Rattle.papers.specs.Plan.{sum}
+use Rattle.promises.specs.Words.{told}
 use Rattle.promises.specs.Run.{afterBy, transfers}
 use Rattle.promises.specs.Starred.{cases, run, wanted}
 

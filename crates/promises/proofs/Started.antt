@@ -9,21 +9,13 @@ use lib.ListN.{length}
 use lib.Dec.{eqb, ltb}
 use borrow.Author.Tests.{eqb-true, ltb-false, leb-false}
 use Rattle.ground.proofs.Tests.{picked}
-use Rattle.protocol.specs.declared.DfuProtocol.{DfuProtocol}
-use Rattle.protocol.specs.declared.DfuProtocol.the-variants.{Dfu, Dfuse}
-use Rattle.session.specs.Told.{mk}
 use Rattle.work.specs.Work.{limit, endOf, blockCount}
-use Rattle.start.specs.Start.{dfuseb, setupOf, fresh, nothingb, beyondb, overb, maxBlocks, manyb, starting, begunOf, beginOf}
-use Rattle.work.specs.declared.End.the-variants.{Stays}
-use Rattle.machine.specs.declared.Phase.the-variants.{First, Finished}
-use Rattle.work.specs.declared.Setup.{Setup}
-use Rattle.session.specs.declared.Session.{Session}
-use Rattle.start.specs.declared.DfuSansIo.{DfuSansIo}
+use Rattle.start.specs.Start.{dfuseb, nothingb, beyondb, overb, maxBlocks, manyb, starting, begunOf, beginOf}
 use Rattle.start.specs.declared.StartError.{StartError}
 use Rattle.start.specs.declared.Started.{Started}
-use Rattle.start.specs.declared.Started.the-variants.{Session as Begun, Refused}
-use Rattle.promises.specs.Run.{opened, transfers}
 use Rattle.plan.specs.Sent.{Begins}
+use Rattle.promises.specs.Words.{DfuProtocol, Setup, End, Phase, Session, mk, DfuSansIo, setupOf, fresh}
+use Rattle.promises.specs.Run.{opened, transfers}
 
 -- what start has tested of a session at its first request: its target ends below 2^32, and DfuSe has a number for each of its blocks
 pub record Within (io : DfuSansIo) (p : DfuProtocol) (n pages : ℕ) : Type 0 where
@@ -31,9 +23,9 @@ pub record Within (io : DfuSansIo) (p : DfuProtocol) (n pages : ℕ) : Type 0 wh
   pub numbered : dfuseb p ≡ true → blockCount n (io .descriptor .«transfer_size») ≤ maxBlocks
 
 -- what holds of every refusal, of the finished start and of a begun one, holds of start
-pub start-picked : (P : Started → Type 0) (io : DfuSansIo) (p : DfuProtocol) (n pages budget : ℕ) → ((e : StartError) → P (Refused e))
-    → (nothingb (setupOf io p n pages) ≡ true → P (Begun (mk (setupOf io p n pages) (fresh (setupOf io p n pages)) budget (Finished Stays))))
-    → ((l : ℕ) → budget ≡ suc l → nothingb (setupOf io p n pages) ≡ false → Within io p n pages → P (Begun (mk (setupOf io p n pages) (fresh (setupOf io p n pages)) l First)))
+pub start-picked : (P : Started → Type 0) (io : DfuSansIo) (p : DfuProtocol) (n pages budget : ℕ) → ((e : StartError) → P (Started.Refused e))
+    → (nothingb (setupOf io p n pages) ≡ true → P (Started.Session (mk (setupOf io p n pages) (fresh (setupOf io p n pages)) budget (Phase.Finished End.Stays))))
+    → ((l : ℕ) → budget ≡ suc l → nothingb (setupOf io p n pages) ≡ false → Within io p n pages → P (Started.Session (mk (setupOf io p n pages) (fresh (setupOf io p n pages)) l Phase.First)))
     → P (beginOf io p n pages budget)
 unfolding beginOf begunOf
 start-picked P io p n pages budget not done on =
@@ -45,21 +37,21 @@ start-picked P io p n pages budget not done on =
     (λ k. last budget (λ l b. on l b g (record { below = below p e h; numbered = numbered p k })))))))
   where
     below : (p : DfuProtocol) → ltb 4294967295 n ≡ false → beyondb (setupOf io p n pages) ≡ false → endOf (setupOf io p n pages) < limit
-    below Dfu e h = omega (arith, ltb-false 4294967295 n e)
-    below (Dfuse a) e h = leb-false _ _ h
+    below DfuProtocol.Dfu e h = omega (arith, ltb-false 4294967295 n e)
+    below (DfuProtocol.Dfuse a) e h = leb-false _ _ h
 
     numbered : (p : DfuProtocol) → manyb (dfuseb p) n (io .descriptor .«transfer_size») ≡ false → dfuseb p ≡ true → blockCount n (io .descriptor .«transfer_size») ≤ maxBlocks
-    numbered Dfu e d = absurd (true≢false (sym d))
-    numbered (Dfuse a) e d = ltb-false _ _ e
+    numbered DfuProtocol.Dfu e d = absurd (true≢false (sym d))
+    numbered (DfuProtocol.Dfuse a) e d = ltb-false _ _ e
 
-    last : (b : ℕ) → ((l : ℕ) → b ≡ suc l → P (Begun (mk (setupOf io p n pages) (fresh (setupOf io p n pages)) l First))) → P (starting (setupOf io p n pages) b)
+    last : (b : ℕ) → ((l : ℕ) → b ≡ suc l → P (Started.Session (mk (setupOf io p n pages) (fresh (setupOf io p n pages)) l Phase.First))) → P (starting (setupOf io p n pages) b)
     last zero f = not _
     last (suc l) f = f l refl
 
-not-begun : {e : StartError} {s : Session} → Refused e ≡ Begun s → ⊥
+not-begun : {e : StartError} {s : Session} → Started.Refused e ≡ Started.Session s → ⊥
 not-begun e = let z : _≡_ {A = ℕ} 0 1 = cc in omega arith
 
-begun-is : {r s : Session} → Begun r ≡ Begun s → s ≡ r
+begun-is : {r s : Session} → Started.Session r ≡ Started.Session s → s ≡ r
 begun-is e = cc
 
 something : (su : Setup) → 0 < su .length → 0 < su .size → nothingb su ≡ true → ⊥
@@ -69,39 +61,39 @@ something su h k =
 -- A SESSION THAT WAS BEGUN, with firmware and transfer size above zero, is at its first request
 pub begun : (io : DfuSansIo) (p : DfuProtocol) (fw ps : List ℕ) (budget : ℕ) (s : Session) → 0 < length fw → 0 < io .descriptor .«transfer_size»
     → Begins io p fw ps budget s
-    → (l : ℕ) × (budget ≡ suc l) × (s ≡ mk (setupOf io p (length fw) (length ps)) (fresh (setupOf io p (length fw) (length ps))) l First)
+    → (l : ℕ) × (budget ≡ suc l) × (s ≡ mk (setupOf io p (length fw) (length ps)) (fresh (setupOf io p (length fw) (length ps))) l Phase.First)
 begun io p fw ps budget s h k =
     start-picked P io p (length fw) (length ps) budget (λ e z. absurd (not-begun z))
     (λ e z. absurd (something (setupOf io p (length fw) (length ps)) h k e))
     (λ l b e t z. (l, b, begun-is z))
   where
     P : Started → Type 0
-    P x = x ≡ Begun s
-        → (l : ℕ) × (budget ≡ suc l) × (s ≡ mk (setupOf io p (length fw) (length ps)) (fresh (setupOf io p (length fw) (length ps))) l First)
+    P x = x ≡ Started.Session s
+        → (l : ℕ) × (budget ≡ suc l) × (s ≡ mk (setupOf io p (length fw) (length ps)) (fresh (setupOf io p (length fw) (length ps))) l Phase.First)
 
 -- A STARTED SESSION, whatever the firmware: at its first request, or finished at once
 pub started : (io : DfuSansIo) (p : DfuProtocol) (fw ps : List ℕ) (budget : ℕ) (s : Session) → Begins io p fw ps budget s
-    → (l : ℕ) × ((s ≡ mk (setupOf io p (length fw) (length ps)) (fresh (setupOf io p (length fw) (length ps))) l First)
-    ⊎ (s ≡ mk (setupOf io p (length fw) (length ps)) (fresh (setupOf io p (length fw) (length ps))) l (Finished Stays)))
+    → (l : ℕ) × ((s ≡ mk (setupOf io p (length fw) (length ps)) (fresh (setupOf io p (length fw) (length ps))) l Phase.First)
+    ⊎ (s ≡ mk (setupOf io p (length fw) (length ps)) (fresh (setupOf io p (length fw) (length ps))) l (Phase.Finished End.Stays)))
 started io p fw ps budget s =
     start-picked P io p (length fw) (length ps) budget (λ e z. absurd (not-begun z)) (λ e z. (budget, inr (begun-is z))) (λ l b e t z. (l, inl (begun-is z)))
   where
     P : Started → Type 0
-    P x = x ≡ Begun s
-        → (l : ℕ) × ((s ≡ mk (setupOf io p (length fw) (length ps)) (fresh (setupOf io p (length fw) (length ps))) l First)
-        ⊎ (s ≡ mk (setupOf io p (length fw) (length ps)) (fresh (setupOf io p (length fw) (length ps))) l (Finished Stays)))
+    P x = x ≡ Started.Session s
+        → (l : ℕ) × ((s ≡ mk (setupOf io p (length fw) (length ps)) (fresh (setupOf io p (length fw) (length ps))) l Phase.First)
+        ⊎ (s ≡ mk (setupOf io p (length fw) (length ps)) (fresh (setupOf io p (length fw) (length ps))) l (Phase.Finished End.Stays)))
 
 -- and what start has tested, unless it finished at once
 pub start-within : (io : DfuSansIo) (p : DfuProtocol) (fw ps : List ℕ) (budget : ℕ) (s : Session) → Begins io p fw ps budget s
     → Within io p (length fw) (length ps)
-    ⊎ (s ≡ mk (setupOf io p (length fw) (length ps)) (fresh (setupOf io p (length fw) (length ps))) budget (Finished Stays))
+    ⊎ (s ≡ mk (setupOf io p (length fw) (length ps)) (fresh (setupOf io p (length fw) (length ps))) budget (Phase.Finished End.Stays))
 start-within io p fw ps budget s =
     start-picked P io p (length fw) (length ps) budget (λ e z. absurd (not-begun z)) (λ e z. inr (begun-is z)) (λ l b e t z. inl t)
   where
     P : Started → Type 0
-    P x = x ≡ Begun s
+    P x = x ≡ Started.Session s
         → Within io p (length fw) (length ps)
-        ⊎ (s ≡ mk (setupOf io p (length fw) (length ps)) (fresh (setupOf io p (length fw) (length ps))) budget (Finished Stays))
+        ⊎ (s ≡ mk (setupOf io p (length fw) (length ps)) (fresh (setupOf io p (length fw) (length ps))) budget (Phase.Finished End.Stays))
 
 pub begun-within : (io : DfuSansIo) (p : DfuProtocol) (fw ps : List ℕ) (budget : ℕ) (s : Session) → 0 < length fw → 0 < io .descriptor .«transfer_size»
     → Begins io p fw ps budget s → Within io p (length fw) (length ps)
@@ -111,7 +103,7 @@ begun-within io p fw ps budget s h k =
     (λ l b e t z. t)
   where
     P : Started → Type 0
-    P x = x ≡ Begun s → Within io p (length fw) (length ps)
+    P x = x ≡ Started.Session s → Within io p (length fw) (length ps)
 
 -- the budget at the start: what is left, and the first request if there is one
 pub start-adds : (io : DfuSansIo) (p : DfuProtocol) (fw ps : List ℕ) (budget : ℕ) (s : Session) → Begins io p fw ps budget s
@@ -126,4 +118,4 @@ start-adds io p fw ps budget s =
     Q x = x .left + length (transfers ((opened x) .past)) ≡ budget
 
     P : Started → Type 0
-    P x = x ≡ Begun s → Q s
+    P x = x ≡ Started.Session s → Q s

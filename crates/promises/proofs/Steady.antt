@@ -4,19 +4,8 @@ use mathlib.Core.Path.{_≡_, refl, subst}
 use mathlib.Core.List.{List, _∷_}
 use lib.Dec.{eqb}
 use Rattle.ground.proofs.Tests.{picked}
-use Rattle.work.specs.Work.{Work, waitAfter}
-use Rattle.session.specs.Told.{Answer}
-use Rattle.wire.specs.declared.Command.{Command}
-use Rattle.wire.specs.declared.Command.the-variants.{Erase, SetAddress, Block, Empty}
-use Rattle.wire.specs.declared.Request.the-variants.{GetStatus, ClearStatus, Command as Commands}
-use Rattle.work.specs.declared.Wait.the-variants.{Pause, Poll}
-use Rattle.machine.specs.declared.Phase.{Phase}
-use Rattle.machine.specs.declared.Phase.the-variants.{First, Clear, Second, Sent, Waiting, Resetting, Finished, Refused}
-use Rattle.work.specs.declared.Setup.{Setup}
-use Rattle.work.specs.declared.Progress.{Progress}
-use Rattle.session.specs.declared.Session.{Session}
-use Rattle.work.specs.declared.Todo.{Todo}
-use Rattle.work.specs.declared.Todo.the-variants.{Send, End as Ends, Refuse}
+use Rattle.work.specs.Work.{waitAfter}
+use Rattle.promises.specs.Words.{Command, Request, Setup, Progress, Todo, Wait, Work, Phase, Session, Answer}
 use Rattle.promises.specs.Run.{Event, sends, hears, World, tell}
 use Rattle.promises.proofs.Walk.{Claims, Holds, Wished, WaitingAt, ClaimAt, Good, tell-good, either-end}
 
@@ -37,27 +26,27 @@ module _ (P : ℕ → List Event → Type 0) where
 
   -- what is asked of the claim: each transfer keeps it, and each reply
   abbrev pub KeptBy : Todo → Type 0
-  KeptBy (Send c then) = (l : ℕ) (h : List Event) → P (suc l) h → P l (sends (Commands c) ∷ h)
-  KeptBy (Ends e) = Unit
-  KeptBy (Refuse e) = Unit
+  KeptBy (Todo.Send c then) = (l : ℕ) (h : List Event) → P (suc l) h → P l (sends (Request.Command c) ∷ h)
+  KeptBy (Todo.End e) = Unit
+  KeptBy (Todo.Refuse e) = Unit
 
   pub record Steady (w : Work) (su : Setup) : Type 0 where
-    pub status : (l : ℕ) (h : List Event) → P (suc l) h → P l (sends GetStatus ∷ h)
-    pub clear : (l : ℕ) (h : List Event) → P (suc l) h → P l (sends ClearStatus ∷ h)
+    pub status : (l : ℕ) (h : List Event) → P (suc l) h → P l (sends Request.GetStatus ∷ h)
+    pub clear : (l : ℕ) (h : List Event) → P (suc l) h → P l (sends Request.ClearStatus ∷ h)
     pub wish : (pr : Progress) → KeptBy (w .next su pr)
     pub hear : (l : ℕ) (h : List Event) (st : ℕ) → P l h → P l (hears st ∷ h)
 
   module _ (w : Work) (su : Setup) where
     waits : (c : Command) (n : ℕ) (pr : Progress) (l : ℕ) (h : List Event) → P l h → WaitingAt w su steady (waitAfter su c n) pr l h
-    waits (Erase a) n pr l h v = v
-    waits (SetAddress a) n pr l h v = v
-    waits (Block b f m) n pr l h v = v
-    waits (Empty b) n pr l h v = v
+    waits (Command.Erase a) n pr l h v = v
+    waits (Command.SetAddress a) n pr l h v = v
+    waits (Command.Block b f m) n pr l h v = v
+    waits (Command.Empty b) n pr l h v = v
 
     wished : (pr : Progress) (l : ℕ) (h : List Event) (t : Todo) → KeptBy t → P l h → Wished w su steady pr l h t
-    wished pr l h (Send c then) k v = λ m e. let on : P m (sends (Commands c) ∷ h) = k m h (subst (λ (x : ℕ). P x h) e v) in (on, λ n e. waits c n _ m _ on)
-    wished pr l h (Ends e) k v = either-end w su steady pr l h e v v
-    wished pr l h (Refuse e) k v = v
+    wished pr l h (Todo.Send c then) k v = λ m e. let on : P m (sends (Request.Command c) ∷ h) = k m h (subst (λ (x : ℕ). P x h) e v) in (on, λ n e. waits c n _ m _ on)
+    wished pr l h (Todo.End e) k v = either-end w su steady pr l h e v v
+    wished pr l h (Todo.Refuse e) k v = v
 
     holds : Steady w su → Holds w su steady
     holds g = record {
@@ -84,26 +73,26 @@ module _ (P : ℕ → List Event → Type 0) where
     }
 
     at-phase : (p : Phase) (pr : Progress) (l : ℕ) (h : List Event) → P l h → ClaimAt w su steady p pr l h
-    at-phase First pr l h v = v
-    at-phase Clear pr l h v = v
-    at-phase Second pr l h v = v
-    at-phase (Sent c) pr l h v = (v, λ n e. waits c n (w .took su pr c n) l h v)
-    at-phase (Waiting (Pause b t ms)) pr l h v = v
-    at-phase (Waiting (Poll b t)) pr l h v = v
-    at-phase Resetting pr l h v = v
-    at-phase (Finished e) pr l h v = v
-    at-phase (Refused e) pr l h v = v
+    at-phase Phase.First pr l h v = v
+    at-phase Phase.Clear pr l h v = v
+    at-phase Phase.Second pr l h v = v
+    at-phase (Phase.Sent c) pr l h v = (v, λ n e. waits c n (w .took su pr c n) l h v)
+    at-phase (Phase.Waiting (Wait.Pause b t ms)) pr l h v = v
+    at-phase (Phase.Waiting (Wait.Poll b t)) pr l h v = v
+    at-phase Phase.Resetting pr l h v = v
+    at-phase (Phase.Finished e) pr l h v = v
+    at-phase (Phase.Refused e) pr l h v = v
 
     of-phase : (p : Phase) (pr : Progress) (l : ℕ) (h : List Event) → ClaimAt w su steady p pr l h → P l h
-    of-phase First pr l h v = v
-    of-phase Clear pr l h v = v
-    of-phase Second pr l h v = v
-    of-phase (Sent c) pr l h v = v .0
-    of-phase (Waiting (Pause b t ms)) pr l h v = v
-    of-phase (Waiting (Poll b t)) pr l h v = v
-    of-phase Resetting pr l h v = v
-    of-phase (Finished e) pr l h v = v
-    of-phase (Refused e) pr l h v = v
+    of-phase Phase.First pr l h v = v
+    of-phase Phase.Clear pr l h v = v
+    of-phase Phase.Second pr l h v = v
+    of-phase (Phase.Sent c) pr l h v = v .0
+    of-phase (Phase.Waiting (Wait.Pause b t ms)) pr l h v = v
+    of-phase (Phase.Waiting (Wait.Poll b t)) pr l h v = v
+    of-phase Phase.Resetting pr l h v = v
+    of-phase (Phase.Finished e) pr l h v = v
+    of-phase (Phase.Refused e) pr l h v = v
 
   told-good : (w : Work) (x : World) (a : Answer) → Steady w (x .session .setup) → P (x .session .left) (x .past)
       → Good w (x .session .setup) steady (tell w x a)
@@ -121,9 +110,9 @@ module _ (P : ℕ → List Event → Type 0) where
 
 -- the setup stays
 any-wish : (t : Todo) → KeptBy (λ l h. Unit) t
-any-wish (Send c then) = λ l h v. tt
-any-wish (Ends e) = tt
-any-wish (Refuse e) = tt
+any-wish (Todo.Send c then) = λ l h v. tt
+any-wish (Todo.End e) = tt
+any-wish (Todo.Refuse e) = tt
 
 pub tell-setup : (w : Work) (x : World) (a : Answer) → (tell w x a) .session .setup ≡ x .session .setup
 tell-setup w x a =

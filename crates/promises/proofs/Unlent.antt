@@ -7,31 +7,14 @@ use mathlib.Core.List.{List}
 use lib.Dec.{ltb}
 use lib.ListN.{length, getD}
 use Rattle.ground.proofs.Tests.{picked}
-use Rattle.protocol.specs.declared.DfuProtocol.{DfuProtocol}
-use Rattle.machine.specs.Machine.{asksAt}
-use Rattle.session.specs.Told.{told}
 use Rattle.work.specs.Work.{limit, endOf}
-use Rattle.download.specs.Download.{eraseNext, writeNext, nextAt, nextOf, download, endFor}
-use Rattle.start.specs.Start.{setupOf}
-use Rattle.work.specs.declared.Wait.the-variants.{Pause, Poll}
-use Rattle.work.specs.declared.Error.the-variants.{NotAwaited, NotAsAtStart}
-use Rattle.work.specs.declared.Stage.{Stage}
-use Rattle.work.specs.declared.Stage.the-variants.{Erasing, Writing, Ending as Closing}
-use Rattle.work.specs.declared.End.{End}
-use Rattle.machine.specs.declared.Phase.{Phase}
-use Rattle.machine.specs.declared.Phase.the-variants.{First, Clear, Second, Sent, Waiting, Resetting, Finished, Refused}
-use Rattle.work.specs.declared.Progress.{Progress}
-use Rattle.work.specs.declared.Setup.{Setup}
-use Rattle.session.specs.declared.Session.{Session}
-use Rattle.work.specs.declared.Todo.{Todo}
-use Rattle.work.specs.declared.Todo.the-variants.{End as Ends}
-use Rattle.machine.specs.declared.Ask.the-variants.{Refused as SaysNo}
-use Rattle.session.specs.declared.Step.{Step}
-use Rattle.start.specs.declared.DfuSansIo.{DfuSansIo}
+use Rattle.download.specs.Download.{eraseNext, writeNext, nextAt, nextOf, endFor}
+use Rattle.machine.specs.Machine.{asksAt}
+use Rattle.plan.specs.Sent.{Begins}
+use Rattle.promises.specs.Words.{DfuProtocol, Setup, Progress, Stage, Todo, Wait, End, Error, download, Phase, Ask, Session, Step, told, DfuSansIo, setupOf}
 use Rattle.promises.specs.Run.{Event, opened, after, World, tell}
 use Rattle.promises.specs.Calls.{Call, outcome, calls, Lends, AllLend, answers}
-use Rattle.plan.specs.Sent.{Begins}
-use Rattle.promises.proofs.Walk.{Claims, Ending, Holds, ClaimAt, Good, tell-good, run-good, either-end}
+use Rattle.promises.proofs.Walk.{Claims, Ending, Holds, ClaimAt, Good, tell-good, run-good}
 use Rattle.promises.proofs.Lasting.{lasting, OfWish, lasting-holds, unit-waits}
 use Rattle.promises.proofs.Started.{started}
 use Rattle.promises.proofs.Real.{For, same-calls, same-step, answers-told}
@@ -44,20 +27,20 @@ module _ (ps : List ℕ) (su : Setup) where
   abbrev Wish : Todo → Type 0
   Wish t = OfWish (λ b t. Unit) Unit (λ e. Unit) Ending t
 
-  end-wish : Wish (Ends (endFor su))
-  end-wish = picked (λ (e : End). Wish (Ends e)) (su .tolerant) _ _ (λ e. tt) (λ e. picked (λ (x : End). Wish (Ends x)) (su .detach) _ _ (λ f. tt) (λ f. tt))
+  end-wish : Wish (Todo.End (endFor su))
+  end-wish = picked (λ (e : End). Wish (Todo.End e)) (su .tolerant) _ _ (λ e. tt) (λ e. picked (λ (x : End). Wish (Todo.End x)) (su .detach) _ _ (λ f. tt) (λ f. tt))
 
   wishes : (st : Stage) (pr : Progress) → Wish (nextAt st ps su pr)
   unfolding eraseNext writeNext
-  wishes Erasing pr =
+  wishes Stage.Erasing pr =
       picked Wish (ltb (pr .erased) (endOf su)) _ _
       (λ e. picked Wish (ltb (pr .page) (length ps)) _ _
       (λ f. picked Wish (ltb (pr .erased + getD ps (pr .page) 0) limit) _ _ (λ g. tt) (λ g. tt))
       (λ f. tt))
       (λ e. tt)
-  wishes Writing pr =
+  wishes Stage.Writing pr =
       picked Wish (ltb (pr .accepted) (su .length)) _ _ (λ e. tt) (λ e. tt)
-  wishes Closing pr = end-wish
+  wishes Stage.Ending pr = end-wish
 
   holds : Holds (download ps) su unlent
   unfolding nextOf
@@ -66,21 +49,21 @@ module _ (ps : List ℕ) (su : Setup) where
       (record { waits = unit-waits su; reset = λ v. tt; wishes = λ pr. wishes (pr .stage) pr; denies = λ e d. d })
 
   -- such a session doesn't say 25
-  says-other : (p : Phase) (pr : Progress) (l : ℕ) (h : List Event) → ClaimAt (download ps) su unlent p pr l h → asksAt p ≡ SaysNo NotAsAtStart → ⊥
-  says-other First pr l h v e = let z : _≡_ {A = ℕ} 0 1 = cc in omega arith
-  says-other Clear pr l h v e = let z : _≡_ {A = ℕ} 0 1 = cc in omega arith
-  says-other Second pr l h v e = let z : _≡_ {A = ℕ} 0 1 = cc in omega arith
-  says-other (Sent c) pr l h v e = let z : _≡_ {A = ℕ} 0 1 = cc in omega arith
-  says-other (Waiting (Pause b t ms)) pr l h v e = let z : _≡_ {A = ℕ} 0 1 = cc in omega arith
-  says-other (Waiting (Poll b t)) pr l h v e = let z : _≡_ {A = ℕ} 0 1 = cc in omega arith
-  says-other Resetting pr l h v e = let z : _≡_ {A = ℕ} 0 1 = cc in omega arith
-  says-other (Finished x) pr l h v e = let z : _≡_ {A = ℕ} 0 1 = cc in omega arith
-  says-other (Refused x) pr l h v e = subst Ending is v
+  says-other : (p : Phase) (pr : Progress) (l : ℕ) (h : List Event) → ClaimAt (download ps) su unlent p pr l h → asksAt p ≡ Ask.Refused Error.NotAsAtStart → ⊥
+  says-other Phase.First pr l h v e = let z : _≡_ {A = ℕ} 0 1 = cc in omega arith
+  says-other Phase.Clear pr l h v e = let z : _≡_ {A = ℕ} 0 1 = cc in omega arith
+  says-other Phase.Second pr l h v e = let z : _≡_ {A = ℕ} 0 1 = cc in omega arith
+  says-other (Phase.Sent c) pr l h v e = let z : _≡_ {A = ℕ} 0 1 = cc in omega arith
+  says-other (Phase.Waiting (Wait.Pause b t ms)) pr l h v e = let z : _≡_ {A = ℕ} 0 1 = cc in omega arith
+  says-other (Phase.Waiting (Wait.Poll b t)) pr l h v e = let z : _≡_ {A = ℕ} 0 1 = cc in omega arith
+  says-other Phase.Resetting pr l h v e = let z : _≡_ {A = ℕ} 0 1 = cc in omega arith
+  says-other (Phase.Finished x) pr l h v e = let z : _≡_ {A = ℕ} 0 1 = cc in omega arith
+  says-other (Phase.Refused x) pr l h v e = subst Ending is v
     where
-      is : x ≡ NotAsAtStart
+      is : x ≡ Error.NotAsAtStart
       is = cc
 
-not-24 : SaysNo NotAwaited ≡ SaysNo NotAsAtStart → ⊥
+not-24 : Ask.Refused Error.NotAwaited ≡ Ask.Refused Error.NotAsAtStart → ⊥
 not-24 e = let z : _≡_ {A = ℕ} 0 1 = cc in omega arith
 
 module _ (io : DfuSansIo) (p : DfuProtocol) (fw ps : List ℕ) (budget : ℕ) (s : Session) (before : List Call) (c : Call) where
@@ -97,7 +80,7 @@ module _ (io : DfuSansIo) (p : DfuProtocol) (fw ps : List ℕ) (budget : ℕ) (s
 
   -- 25 IS NEVER GIVEN
   pub never-25 : Begins io p fw ps budget s → AllLend fw ps before → Lends fw ps c
-      → (outcome ((calls (opened s) before) .session) c) .step .says ≡ SaysNo NotAsAtStart → ⊥
+      → (outcome ((calls (opened s) before) .session) c) .step .says ≡ Ask.Refused Error.NotAsAtStart → ⊥
   never-25 b v u e =
       let g : Good (download ps) su unlent (opened s) = start-good b in
       let same : calls (opened s) before ≡ after (download ps) (opened s) (answers before) =
@@ -109,7 +92,7 @@ module _ (io : DfuSansIo) (p : DfuProtocol) (fw ps : List ℕ) (budget : ℕ) (s
       tell-good (download ps) su unlent (holds ps su) x (c .answer) r in
       let y : Step = told (download ps) (x .session) (c .answer) in
       let step : (outcome (x .session) c) .step ≡ y = same-step fw ps (x .session) c (subst (For fw ps) (sym (r .setup)) (refl, refl)) u in
-      let q : y .says ≡ SaysNo NotAsAtStart = sym (ap (λ (z : Step). z .says) step) ∙ e in
+      let q : y .says ≡ Ask.Refused Error.NotAsAtStart = sym (ap (λ (z : Step). z .says) step) ∙ e in
       ⊎-elim
       (λ z. says-other ps su (y .next .phase) (y .next .progress) (y .next .left) _ (t .holds) (sym z ∙ q))
       (λ z. not-24 (sym z ∙ q))

@@ -5,14 +5,7 @@ use mathlib.Core.List.{List, [], _∷_}
 use lib.ListN.{length}
 use Rattle.get_status.specs.Names.{statusByte}
 use Rattle.get_status.specs.Reply.{messageOf}
-use Rattle.work.specs.Work.{Work}
-use Rattle.session.specs.Told.{Answer, count, reply, waited, wasReset, failed, told}
-use Rattle.work.specs.declared.Wait.the-variants.{Pause, Poll}
-use Rattle.machine.specs.declared.Phase.{Phase}
-use Rattle.machine.specs.declared.Phase.the-variants.{First, Clear, Second, Sent, Waiting, Resetting, Finished, Refused}
-use Rattle.wire.specs.declared.Command.{Command}
-use Rattle.session.specs.declared.Session.{Session}
-use Rattle.session.specs.declared.Step.{Step}
+use Rattle.promises.specs.Words.{Command, Wait, Work, Phase, Session, Step, Answer, count, reply, waited, wasReset, failed, told}
 use Rattle.promises.specs.Run.{Taken}
 
 abbrev pub Sound : Answer → Type 0
@@ -24,15 +17,15 @@ Sound failed = Unit
 
 -- where a reply is awaited that isn't the first
 abbrev pub SoundAt : Phase → Answer → Type 0
-SoundAt First a = Unit
-SoundAt Clear a = Unit
-SoundAt Second a = Sound a
-SoundAt (Sent c) a = Unit
-SoundAt (Waiting (Pause b t ms)) a = Unit
-SoundAt (Waiting (Poll b t)) a = Sound a
-SoundAt Resetting a = Unit
-SoundAt (Finished e) a = Unit
-SoundAt (Refused e) a = Unit
+SoundAt Phase.First a = Unit
+SoundAt Phase.Clear a = Unit
+SoundAt Phase.Second a = Sound a
+SoundAt (Phase.Sent c) a = Unit
+SoundAt (Phase.Waiting (Wait.Pause b t ms)) a = Unit
+SoundAt (Phase.Waiting (Wait.Poll b t)) a = Sound a
+SoundAt Phase.Resetting a = Unit
+SoundAt (Phase.Finished e) a = Unit
+SoundAt (Phase.Refused e) a = Unit
 
 -- where the count of a command is awaited: a block's is its length
 abbrev pub Whole : Command → Answer → Type 0
@@ -43,14 +36,14 @@ Whole c wasReset = Unit
 Whole c failed = Unit
 
 abbrev pub WholeAt : Phase → Answer → Type 0
-WholeAt First a = Unit
-WholeAt Clear a = Unit
-WholeAt Second a = Unit
-WholeAt (Sent c) a = Whole c a
-WholeAt (Waiting x) a = Unit
-WholeAt Resetting a = Unit
-WholeAt (Finished e) a = Unit
-WholeAt (Refused e) a = Unit
+WholeAt Phase.First a = Unit
+WholeAt Phase.Clear a = Unit
+WholeAt Phase.Second a = Unit
+WholeAt (Phase.Sent c) a = Whole c a
+WholeAt (Phase.Waiting x) a = Unit
+WholeAt Phase.Resetting a = Unit
+WholeAt (Phase.Finished e) a = Unit
+WholeAt (Phase.Refused e) a = Unit
 
 -- each answer of a run, where it is told
 unfoldable pub AllAtBy : (Phase → Answer → Type 0) → (Session → Answer → Step) → Session → List Answer → Type 0

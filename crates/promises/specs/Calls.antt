@@ -4,15 +4,10 @@ use mathlib.Core.Path.{_≡_}
 use mathlib.Core.Bool.{Bool, true}
 use mathlib.Core.List.{List, [], _∷_, _++_}
 use lib.ListN.{length}
-use Rattle.ground.specs.Pick.{pick}
 use Rattle.machine.specs.Machine.{asksAt}
-use Rattle.session.specs.Told.{Answer}
 use Rattle.session.specs.Calls.{asAtStart, guardOf, Outcome, out, callOf}
 use Rattle.session.specs.declared.Guard.{Guard}
-use Rattle.session.specs.declared.Guard.the-variants.{Open, Shut}
-use Rattle.machine.specs.declared.Phase.{Phase}
-use Rattle.work.specs.declared.Setup.{Setup}
-use Rattle.session.specs.declared.Session.{Session}
+use Rattle.promises.specs.Words.{pick, Setup, Phase, Session, Answer}
 use Rattle.promises.specs.Run.{Event, sentBy, heardAt, World}
 
 pub record Call : Type 0 where
@@ -27,8 +22,8 @@ outcome s c = callOf (c .firmware) (c .pages) (c .command) s (c .answer)
 
 -- a call that is refused for what it lends hears nothing
 abbrev pub heardThrough : Guard → Phase → Answer → List Event
-heardThrough Open p a = heardAt p a
-heardThrough (Shut ask) p a = []
+heardThrough Guard.Open p a = heardAt p a
+heardThrough (Guard.Shut ask) p a = []
 
 abbrev pub call : World → Call → World
 call x c = record {

@@ -5,27 +5,15 @@ use mathlib.Core.Logic.{_⊎_}
 use mathlib.Core.Path.{_≡_}
 use mathlib.Core.List.{List, [], _∷_}
 use lib.ListN.{length}
-use Rattle.ground.specs.Pick.{pick}
+use Rattle.papers.specs.Plan.{sum, commands}
 use Rattle.get_status.specs.Names.{stateByte, statusByte}
 use Rattle.get_status.specs.Reply.{messageOf}
 use Rattle.get_status.specs.declared.GetStatusMessage.{GetStatusMessage}
 use Rattle.memory_layout.specs.Layout.{maxPages}
-use Rattle.protocol.specs.declared.DfuProtocol.{DfuProtocol}
-use Rattle.work.specs.Work.{Work, limit, blockCount}
-use Rattle.session.specs.Told.{Answer, count, reply, waited, wasReset, failed, told}
+use Rattle.work.specs.Work.{limit, blockCount}
 use Rattle.download.specs.Download.{covering}
 use Rattle.start.specs.Start.{dfuseb, targetOf, maxBlocks}
-use Rattle.work.specs.declared.Wait.the-variants.{Pause, Poll}
-use Rattle.work.specs.declared.End.{End}
-use Rattle.work.specs.declared.End.the-variants.{Stays, Reset}
-use Rattle.machine.specs.declared.Phase.{Phase}
-use Rattle.machine.specs.declared.Phase.the-variants.{First, Clear, Second, Sent, Waiting, Resetting, Finished, Refused}
-use Rattle.session.specs.declared.Session.{Session}
-use Rattle.session.specs.declared.Step.{Step}
-use Rattle.machine.specs.declared.Ask.{Ask}
-use Rattle.machine.specs.declared.Ask.the-variants.{Transfer, Wait as WaitFor, Reset as ResetBus, Finished as HasFinished, Refused as SaysNo}
-use Rattle.start.specs.declared.DfuSansIo.{DfuSansIo}
-use Rattle.papers.specs.Plan.{sum, commands}
+use Rattle.promises.specs.Words.{pick, DfuProtocol, Wait, End, Work, Phase, Ask, Session, Step, Answer, count, reply, waited, wasReset, failed, told, DfuSansIo}
 use Rattle.promises.specs.Run.{Taken}
 
 -- whether an answer is of the kind that is awaited; a failure is, but in a wait
@@ -58,15 +46,15 @@ awaitsReset wasReset = true
 awaitsReset failed = true
 
 abbrev pub awaited : Phase → Answer → Bool
-awaited First a = awaitsReply a
-awaited Clear a = awaitsCount a
-awaited Second a = awaitsReply a
-awaited (Sent c) a = awaitsCount a
-awaited (Waiting (Pause b t ms)) a = awaitsWait a
-awaited (Waiting (Poll b t)) a = awaitsReply a
-awaited Resetting a = awaitsReset a
-awaited (Finished e) a = true
-awaited (Refused e) a = true
+awaited Phase.First a = awaitsReply a
+awaited Phase.Clear a = awaitsCount a
+awaited Phase.Second a = awaitsReply a
+awaited (Phase.Sent c) a = awaitsCount a
+awaited (Phase.Waiting (Wait.Pause b t ms)) a = awaitsWait a
+awaited (Phase.Waiting (Wait.Poll b t)) a = awaitsReply a
+awaited Phase.Resetting a = awaitsReset a
+awaited (Phase.Finished e) a = true
+awaited (Phase.Refused e) a = true
 
 -- the answers of a run that aren't refused by 24
 unfoldable pub heededBy : (Session → Answer → Step) → Session → List Answer → List Answer
@@ -111,27 +99,27 @@ FineReset failed = ⊥
 
 -- the awaited answer: a block's count is its length; status 0 in every reply but the first; the second state idle; in a wait the target, or busy while j busy replies are still allowed
 abbrev pub Fine : ℕ → Phase → Answer → Type 0
-Fine j First a = FineReply (λ m. Unit) a
-Fine j Clear a = FineCount (λ n. Unit) a
-Fine j Second a = FineReply (Okay (λ st. st ≡ 2)) a
-Fine j (Sent c) a = FineCount (λ n. Taken c n) a
-Fine j (Waiting (Pause b t ms)) a = FineWait a
-Fine j (Waiting (Poll b t)) a = FineReply (Okay (λ st. (st ≡ stateByte t) ⊎ ((st ≡ stateByte b) × (0 < j)))) a
-Fine j Resetting a = FineReset a
-Fine j (Finished e) a = Unit
-Fine j (Refused e) a = Unit
+Fine j Phase.First a = FineReply (λ m. Unit) a
+Fine j Phase.Clear a = FineCount (λ n. Unit) a
+Fine j Phase.Second a = FineReply (Okay (λ st. st ≡ 2)) a
+Fine j (Phase.Sent c) a = FineCount (λ n. Taken c n) a
+Fine j (Phase.Waiting (Wait.Pause b t ms)) a = FineWait a
+Fine j (Phase.Waiting (Wait.Poll b t)) a = FineReply (Okay (λ st. (st ≡ stateByte t) ⊎ ((st ≡ stateByte b) × (0 < j)))) a
+Fine j Phase.Resetting a = FineReset a
+Fine j (Phase.Finished e) a = Unit
+Fine j (Phase.Refused e) a = Unit
 
 -- the busy replies still allowed after an answer: k for a new wait, one fewer after a look
 abbrev pub allowed : ℕ → ℕ → Phase → ℕ
-allowed k j First = j
-allowed k j Clear = j
-allowed k j Second = j
-allowed k j (Sent c) = k
-allowed k j (Waiting (Pause b t ms)) = j
-allowed k j (Waiting (Poll b t)) = j - 1
-allowed k j Resetting = j
-allowed k j (Finished e) = j
-allowed k j (Refused e) = j
+allowed k j Phase.First = j
+allowed k j Phase.Clear = j
+allowed k j Phase.Second = j
+allowed k j (Phase.Sent c) = k
+allowed k j (Phase.Waiting (Wait.Pause b t ms)) = j
+allowed k j (Phase.Waiting (Wait.Poll b t)) = j - 1
+allowed k j Phase.Resetting = j
+allowed k j (Phase.Finished e) = j
+allowed k j (Phase.Refused e) = j
 
 -- each wait meets at most k busy replies, j of them in the wait that is on
 unfoldable pub FairBy : ℕ → ℕ → (Session → Answer → Step) → Session → List Answer → Type 0
@@ -143,11 +131,11 @@ Fair k j w s more = FairBy k j (told w) s more
 
 -- no answer of a run is a refusal
 abbrev pub Yes : Ask → Type 0
-Yes (Transfer q) = Unit
-Yes (WaitFor ms) = Unit
-Yes ResetBus = Unit
-Yes (HasFinished e) = Unit
-Yes (SaysNo e) = ⊥
+Yes (Ask.Transfer q) = Unit
+Yes (Ask.Wait ms) = Unit
+Yes Ask.Reset = Unit
+Yes (Ask.Finished e) = Unit
+Yes (Ask.Refused e) = ⊥
 
 unfoldable pub AllYesBy : (Session → Answer → Step) → Session → List Answer → Type 0
 AllYesBy f s [] = Unit
@@ -178,4 +166,4 @@ answersFor k requests = 4 + requests * (2 * k + 3)
 
 -- the device stays if it is tolerant or will detach; else the end comes after the reset
 abbrev pub endOfRun : Bool → Bool → End
-endOfRun tolerant detach = pick tolerant Stays (pick detach Stays Reset)
+endOfRun tolerant detach = pick tolerant End.Stays (pick detach End.Stays End.Reset)

@@ -1,3 +1,4 @@
+pub mod Words
 pub mod Run
 pub mod Calls
 pub mod Whole

@@ -2,14 +2,13 @@
 use Prim.Native.Nat.{ℕ, _+_, _<_}
 use mathlib.Core.List.{List, [], _∷_}
 use Rattle.work.specs.Work.{limit}
-use Rattle.wire.specs.declared.Command.{Command}
-use Rattle.wire.specs.declared.Command.the-variants.{Erase, SetAddress, Block, Empty}
+use Rattle.promises.specs.Words.{Command}
 
 abbrev pub EndsBelow : ℕ → Command → Type 0
-EndsBelow address (Erase a) = Unit
-EndsBelow address (SetAddress a) = Unit
-EndsBelow address (Block n f m) = address + (f + m) < limit
-EndsBelow address (Empty n) = Unit
+EndsBelow address (Command.Erase a) = Unit
+EndsBelow address (Command.SetAddress a) = Unit
+EndsBelow address (Command.Block n f m) = address + (f + m) < limit
+EndsBelow address (Command.Empty n) = Unit
 
 unfoldable pub AllBelow : ℕ → List Command → Type 0
 AllBelow address [] = Unit

@@ -4,36 +4,17 @@ use mathlib.Core.Path.{_≡_}
 use mathlib.Core.List.{List, _++_, map}
 use lib.Dec.{ltb}
 use lib.ListN.{length}
-use Rattle.ground.specs.Pick.{pick}
-use Rattle.protocol.specs.declared.DfuProtocol.{DfuProtocol}
-use Rattle.work.specs.Work.{wholeOf}
-use Rattle.machine.specs.Machine.{proceed}
-use Rattle.session.specs.Told.{Answer, count, reply, waited, wasReset, failed, mk, over, go, stay, told}
-use Rattle.download.specs.Download.{download, eraseNext, nextOf, tookOf}
-use Rattle.start.specs.Start.{beginOf}
-use Rattle.wire.specs.declared.Command.{Command}
-use Rattle.wire.specs.declared.Command.the-variants.{Erase, SetAddress, Block, Empty}
-use Rattle.wire.specs.declared.Request.the-variants.{GetStatus}
-use Rattle.work.specs.declared.Error.the-variants.{NotAwaited}
-use Rattle.work.specs.declared.End.the-variants.{Stays}
-use Rattle.work.specs.declared.Stage.{Stage}
-use Rattle.work.specs.declared.Stage.the-variants.{Erasing, Writing, Ending}
-use Rattle.machine.specs.declared.Phase.{Phase}
-use Rattle.machine.specs.declared.Phase.the-variants.{First, Clear, Second, Sent, Waiting, Resetting, Finished, Refused}
-use Rattle.work.specs.declared.Setup.{Setup}
-use Rattle.work.specs.declared.Progress.{Progress}
-use Rattle.session.specs.declared.Session.{Session}
-use Rattle.work.specs.declared.Todo.{Todo}
-use Rattle.work.specs.declared.Todo.the-variants.{Send, End as Ends, Refuse}
-use Rattle.machine.specs.declared.Ask.the-variants.{Transfer}
-use Rattle.session.specs.declared.Step.{Step}
-use Rattle.start.specs.declared.DfuSansIo.{DfuSansIo}
-use Rattle.start.specs.declared.StartError.the-variants.{NoSpaceLeft}
-use Rattle.start.specs.declared.Started.{Started}
-use Rattle.start.specs.declared.Started.the-variants.{Session as Begun, Refused as Unbegun}
 use Rattle.papers.specs.Plan.{Dnload}
-use Rattle.promises.specs.Run.{opened, afterBy, transfers, commanded, cleared, Over}
+use Rattle.work.specs.Work.{wholeOf}
+use Rattle.download.specs.Download.{eraseNext, nextOf, tookOf}
+use Rattle.machine.specs.Machine.{proceed}
+use Rattle.session.specs.Told.{over, go, stay}
+use Rattle.start.specs.Start.{beginOf}
+use Rattle.start.specs.declared.Started.{Started}
+use Rattle.start.specs.declared.StartError.{StartError}
 use Rattle.plan.specs.Sent.{onWire, planOf}
+use Rattle.promises.specs.Words.{pick, DfuProtocol, Command, Request, Setup, Progress, Stage, Todo, End, Error, download, Phase, Ask, Session, Step, Answer, count, reply, waited, wasReset, failed, mk, told, DfuSansIo}
+use Rattle.promises.specs.Run.{opened, afterBy, transfers, commanded, cleared, Over}
 use Rattle.promises.specs.Whole.{Listed}
 use Rattle.promises.specs.Fair.{heededBy, FairBy, Ready, requestsOf, bound}
 use Rattle.promises.specs.Finish.{FinishesBy}
@@ -48,7 +29,7 @@ abbrev pub ours : Machine
 ours = record { start = beginOf; told = λ ps s a. told (download ps) s a }
 
 abbrev pub Began : Machine → DfuSansIo → DfuProtocol → List ℕ → List ℕ → ℕ → Session → Type 0
-Began m io p fw ps budget s = m .start io p (length fw) (length ps) budget ≡ Begun s
+Began m io p fw ps budget s = m .start io p (length fw) (length ps) budget ≡ Started.Session s
 
 -- 2: a finished run has sent the plan, and every run a leading part of it
 abbrev pub SendsThePlan : Machine → Type 0
@@ -101,19 +82,19 @@ WholeBlocks m =
 
 -- always refusing
 abbrev pub refusing : Machine
-refusing = record { start = λ io p n pages budget. Unbegun NoSpaceLeft; told = ours .told }
+refusing = record { start = λ io p n pages budget. Started.Refused StartError.NoSpaceLeft; told = ours .told }
 
 -- one fixed answer
 abbrev pub fixed : Machine
-fixed = record { start = beginOf; told = λ ps s a. record { next = s; says = Transfer GetStatus } }
+fixed = record { start = beginOf; told = λ ps s a. record { next = s; says = Ask.Transfer Request.GetStatus } }
 
 -- doing nothing
 abbrev pub idle : Machine
-idle = record { start = beginOf; told = λ ps s a. stay s NotAwaited }
+idle = record { start = beginOf; told = λ ps s a. stay s Error.NotAwaited }
 
 -- finishing at the first call
 abbrev pub hasty : Machine
-hasty = record { start = beginOf; told = λ ps s a. go (mk (s .setup) (s .progress) (s .left) (Finished Stays)) }
+hasty = record { start = beginOf; told = λ ps s a. go (mk (s .setup) (s .progress) (s .left) (Phase.Finished End.Stays)) }
 
 -- blocks without asking for status: a count leads to the next request at once
 abbrev pub atOnce : List ℕ → Setup → ℕ → Progress → Session
@@ -121,18 +102,18 @@ atOnce ps su l then = over su (proceed then l (nextOf ps su then))
 
 -- ours, but for the count of a command, from which it makes a step of its own
 abbrev pub countBy : List ℕ → (Command → Step) → Session → Phase → Answer → Step
-countBy ps f s (Sent c) (count n) = f c
-countBy ps f s (Sent c) (reply bs) = told (download ps) s (reply bs)
-countBy ps f s (Sent c) waited = told (download ps) s waited
-countBy ps f s (Sent c) wasReset = told (download ps) s wasReset
-countBy ps f s (Sent c) failed = told (download ps) s failed
-countBy ps f s First a = told (download ps) s a
-countBy ps f s Clear a = told (download ps) s a
-countBy ps f s Second a = told (download ps) s a
-countBy ps f s (Waiting x) a = told (download ps) s a
-countBy ps f s Resetting a = told (download ps) s a
-countBy ps f s (Finished e) a = told (download ps) s a
-countBy ps f s (Refused e) a = told (download ps) s a
+countBy ps f s (Phase.Sent c) (count n) = f c
+countBy ps f s (Phase.Sent c) (reply bs) = told (download ps) s (reply bs)
+countBy ps f s (Phase.Sent c) waited = told (download ps) s waited
+countBy ps f s (Phase.Sent c) wasReset = told (download ps) s wasReset
+countBy ps f s (Phase.Sent c) failed = told (download ps) s failed
+countBy ps f s Phase.First a = told (download ps) s a
+countBy ps f s Phase.Clear a = told (download ps) s a
+countBy ps f s Phase.Second a = told (download ps) s a
+countBy ps f s (Phase.Waiting x) a = told (download ps) s a
+countBy ps f s Phase.Resetting a = told (download ps) s a
+countBy ps f s (Phase.Finished e) a = told (download ps) s a
+countBy ps f s (Phase.Refused e) a = told (download ps) s a
 
 abbrev pub blind : Machine
 blind = record {
@@ -153,12 +134,12 @@ inventive = record { start = beginOf; told = λ ps s a. spentAll (told (download
 
 -- the first number 3: every block's is one up
 abbrev pub oneUp : Todo → Todo
-oneUp (Send (Erase a) then) = Send (Erase a) then
-oneUp (Send (SetAddress a) then) = Send (SetAddress a) then
-oneUp (Send (Block n f m) then) = Send (Block (n + 1) f m) then
-oneUp (Send (Empty n) then) = Send (Empty (n + 1)) then
-oneUp (Ends e) = Ends e
-oneUp (Refuse e) = Refuse e
+oneUp (Todo.Send (Command.Erase a) then) = Todo.Send (Command.Erase a) then
+oneUp (Todo.Send (Command.SetAddress a) then) = Todo.Send (Command.SetAddress a) then
+oneUp (Todo.Send (Command.Block n f m) then) = Todo.Send (Command.Block (n + 1) f m) then
+oneUp (Todo.Send (Command.Empty n) then) = Todo.Send (Command.Empty (n + 1)) then
+oneUp (Todo.End e) = Todo.End e
+oneUp (Todo.Refuse e) = Todo.Refuse e
 
 abbrev pub numberedFromThree : Machine
 numberedFromThree = record { start = beginOf; told = λ ps s a. told (record { next = λ su pr. oneUp (nextOf ps su pr); took = λ su pr c n. tookOf su pr c }) s a }
@@ -176,9 +157,9 @@ longer su = record {
 }
 
 abbrev pub onePageMoreAt : Stage → List ℕ → Setup → Progress → Todo
-onePageMoreAt Erasing ps su pr = eraseNext ps (longer su) pr
-onePageMoreAt Writing ps su pr = nextOf ps su pr
-onePageMoreAt Ending ps su pr = nextOf ps su pr
+onePageMoreAt Stage.Erasing ps su pr = eraseNext ps (longer su) pr
+onePageMoreAt Stage.Writing ps su pr = nextOf ps su pr
+onePageMoreAt Stage.Ending ps su pr = nextOf ps su pr
 
 abbrev pub onePageMore : Machine
 onePageMore = record {
@@ -189,16 +170,16 @@ onePageMore = record {
 -- the address set twice: once more before the first block, which the page index marks
 abbrev pub marked : Progress → Progress
 marked pr = record {
-  stage = Writing;
+  stage = Stage.Writing;
   erased = pr .erased;
   page = 1000;
   accepted = pr .accepted;
 }
 
 abbrev pub twiceAt : Stage → List ℕ → Setup → Progress → Todo
-twiceAt Erasing ps su pr = nextOf ps su pr
-twiceAt Writing ps su pr = pick (ltb (pr .page) 1000) (Send (SetAddress (su .address)) (marked pr)) (nextOf ps su pr)
-twiceAt Ending ps su pr = nextOf ps su pr
+twiceAt Stage.Erasing ps su pr = nextOf ps su pr
+twiceAt Stage.Writing ps su pr = pick (ltb (pr .page) 1000) (Todo.Send (Command.SetAddress (su .address)) (marked pr)) (nextOf ps su pr)
+twiceAt Stage.Ending ps su pr = nextOf ps su pr
 
 abbrev pub addressTwice : Machine
 addressTwice = record {

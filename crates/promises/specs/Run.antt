@@ -4,21 +4,8 @@ use mathlib.Core.Path.{_≡_}
 use mathlib.Core.List.{List, [], _∷_, _++_}
 use Rattle.get_status.specs.Names.{stateByte}
 use Rattle.get_status.specs.declared.Reply.{Reply}
-use Rattle.get_status.specs.declared.Reply.the-variants.{ResponseTooShort as ShortReply, StatusError as BadStatus, Read}
-use Rattle.work.specs.Work.{Work}
 use Rattle.machine.specs.Machine.{firstReply, laterReply, asksAt}
-use Rattle.session.specs.Told.{Answer, count, reply, waited, wasReset, failed, told}
-use Rattle.session.specs.declared.Session.{Session}
-use Rattle.wire.specs.declared.Command.{Command}
-use Rattle.wire.specs.declared.Command.the-variants.{Erase, SetAddress, Block, Empty}
-use Rattle.wire.specs.declared.Request.{Request}
-use Rattle.wire.specs.declared.Request.the-variants.{GetStatus, ClearStatus, Command as Commands}
-use Rattle.work.specs.declared.Wait.the-variants.{Pause, Poll}
-use Rattle.machine.specs.declared.Phase.{Phase}
-use Rattle.machine.specs.declared.Phase.the-variants.{First, Clear, Second, Sent, Waiting, Resetting, Finished, Refused}
-use Rattle.session.specs.declared.Step.{Step}
-use Rattle.machine.specs.declared.Ask.{Ask}
-use Rattle.machine.specs.declared.Ask.the-variants.{Transfer, Wait as WaitFor, Reset as ResetBus, Finished as HasFinished, Refused as SaysNo}
+use Rattle.promises.specs.Words.{Command, Request, Wait, Work, Phase, Ask, Session, Step, Answer, count, reply, waited, wasReset, failed, told}
 
 -- what happens: a transfer is issued, an awaited reply shows a state
 pub data Event : Type 0 where
@@ -27,17 +14,17 @@ pub data Event : Type 0 where
 
 -- the transfer that an answer issues, if it issues one
 abbrev pub sentBy : Ask → List Event
-sentBy (Transfer q) = sends q ∷ []
-sentBy (WaitFor ms) = []
-sentBy ResetBus = []
-sentBy (HasFinished e) = []
-sentBy (SaysNo e) = []
+sentBy (Ask.Transfer q) = sends q ∷ []
+sentBy (Ask.Wait ms) = []
+sentBy Ask.Reset = []
+sentBy (Ask.Finished e) = []
+sentBy (Ask.Refused e) = []
 
 -- the state that a reply shows, if it is read
 abbrev pub shownBy : Reply → List Event
-shownBy (ShortReply got) = []
-shownBy (BadStatus status) = []
-shownBy (Read m) = hears (stateByte (m .state)) ∷ []
+shownBy (Reply.ResponseTooShort got) = []
+shownBy (Reply.StatusError status) = []
+shownBy (Reply.Read m) = hears (stateByte (m .state)) ∷ []
 
 abbrev pub shownFirst : Answer → List Event
 shownFirst (count n) = []
@@ -55,15 +42,15 @@ shownLater failed = []
 
 -- where a reply is awaited
 abbrev pub heardAt : Phase → Answer → List Event
-heardAt First a = shownFirst a
-heardAt Clear a = []
-heardAt Second a = shownLater a
-heardAt (Sent c) a = []
-heardAt (Waiting (Pause b t ms)) a = []
-heardAt (Waiting (Poll b t)) a = shownLater a
-heardAt Resetting a = []
-heardAt (Finished e) a = []
-heardAt (Refused e) a = []
+heardAt Phase.First a = shownFirst a
+heardAt Phase.Clear a = []
+heardAt Phase.Second a = shownLater a
+heardAt (Phase.Sent c) a = []
+heardAt (Phase.Waiting (Wait.Pause b t ms)) a = []
+heardAt (Phase.Waiting (Wait.Poll b t)) a = shownLater a
+heardAt Phase.Resetting a = []
+heardAt (Phase.Finished e) a = []
+heardAt (Phase.Refused e) a = []
 
 -- a session, and what has happened to it, the latest first
 pub record World : Type 0 where
@@ -104,43 +91,43 @@ transfers (hears st ∷ past) = transfers past
 
 unfoldable pub commanded : List Event → List Command
 commanded [] = []
-commanded (sends GetStatus ∷ past) = commanded past
-commanded (sends ClearStatus ∷ past) = commanded past
-commanded (sends (Commands c) ∷ past) = commanded past ++ (c ∷ [])
+commanded (sends Request.GetStatus ∷ past) = commanded past
+commanded (sends Request.ClearStatus ∷ past) = commanded past
+commanded (sends (Request.Command c) ∷ past) = commanded past ++ (c ∷ [])
 commanded (hears st ∷ past) = commanded past
 
 -- the clears that were sent
 unfoldable pub cleared : List Event → ℕ
 cleared [] = 0
-cleared (sends GetStatus ∷ past) = cleared past
-cleared (sends ClearStatus ∷ past) = suc (cleared past)
-cleared (sends (Commands c) ∷ past) = cleared past
+cleared (sends Request.GetStatus ∷ past) = cleared past
+cleared (sends Request.ClearStatus ∷ past) = suc (cleared past)
+cleared (sends (Request.Command c) ∷ past) = cleared past
 cleared (hears st ∷ past) = cleared past
 
 -- a session that is not refused; one that is finished
 abbrev pub Unrefused : Phase → Type 0
-Unrefused First = Unit
-Unrefused Clear = Unit
-Unrefused Second = Unit
-Unrefused (Sent c) = Unit
-Unrefused (Waiting x) = Unit
-Unrefused Resetting = Unit
-Unrefused (Finished e) = Unit
-Unrefused (Refused e) = ⊥
+Unrefused Phase.First = Unit
+Unrefused Phase.Clear = Unit
+Unrefused Phase.Second = Unit
+Unrefused (Phase.Sent c) = Unit
+Unrefused (Phase.Waiting x) = Unit
+Unrefused Phase.Resetting = Unit
+Unrefused (Phase.Finished e) = Unit
+Unrefused (Phase.Refused e) = ⊥
 
 abbrev pub Over : Phase → Type 0
-Over First = ⊥
-Over Clear = ⊥
-Over Second = ⊥
-Over (Sent c) = ⊥
-Over (Waiting x) = ⊥
-Over Resetting = ⊥
-Over (Finished e) = Unit
-Over (Refused e) = ⊥
+Over Phase.First = ⊥
+Over Phase.Clear = ⊥
+Over Phase.Second = ⊥
+Over (Phase.Sent c) = ⊥
+Over (Phase.Waiting x) = ⊥
+Over Phase.Resetting = ⊥
+Over (Phase.Finished e) = Unit
+Over (Phase.Refused e) = ⊥
 
 -- a command that was taken whole: a block's count is its length, any other isn't looked at
 abbrev pub Taken : Command → ℕ → Type 0
-Taken (Erase a) n = Unit
-Taken (SetAddress a) n = Unit
-Taken (Block b f m) n = n ≡ m
-Taken (Empty b) n = Unit
+Taken (Command.Erase a) n = Unit
+Taken (Command.SetAddress a) n = Unit
+Taken (Command.Block b f m) n = n ≡ m
+Taken (Command.Empty b) n = Unit

@@ -2,9 +2,8 @@
 use Prim.Native.Nat.{ℕ}
 use mathlib.Core.Bool.{Bool, true}
 use mathlib.Core.List.{[], _∷_}
-use Rattle.session.specs.Told.{Answer, reply}
 use Rattle.start.specs.Start.{newIo}
-use Rattle.start.specs.declared.DfuSansIo.{DfuSansIo}
+use Rattle.promises.specs.Words.{Answer, reply, DfuSansIo}
 
 -- a device by what start looks at: tolerant, will detach, transfer size
 abbrev pub deviceOf : Bool → Bool → ℕ → DfuSansIo

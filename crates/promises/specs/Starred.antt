@@ -6,26 +6,14 @@ use mathlib.Core.Bool.{Bool, true, false}
 use lib.ListN.{replicate, length as count}
 use Rattle.ground.specs.Said.{Said, says}
 use Rattle.ground.specs.Text.{codes}
+use Rattle.papers.specs.Plan.{sum}
 use Rattle.memory_layout.specs.Layout as layout
 use Rattle.protocol.specs.Interface as protocol
-use Rattle.protocol.specs.declared.DfuProtocol.{DfuProtocol}
-use Rattle.protocol.specs.declared.DfuProtocol.the-variants.{Dfu, Dfuse}
-use Rattle.wire.specs.declared.Command.the-variants.{Erase, SetAddress, Block, Empty}
-use Rattle.wire.specs.declared.Request.{Request}
-use Rattle.wire.specs.declared.Request.the-variants.{GetStatus, ClearStatus, Command as Sends}
-use Rattle.session.specs.declared.Session.{Session}
-use Rattle.work.specs.declared.Stage.the-variants.{Erasing, Ending}
-use Rattle.work.specs.declared.End.the-variants.{Stays}
-use Rattle.work.specs.declared.Error.the-variants.{BudgetSpent}
-use Rattle.machine.specs.declared.Phase.the-variants.{Finished, Refused as Ended}
-use Rattle.start.specs.declared.DfuSansIo.{DfuSansIo}
-use Rattle.start.specs.declared.Started.{Started}
-use Rattle.start.specs.declared.Started.the-variants.{Session as Begun, Refused}
 use Rattle.machine.specs.Machine.{asksAt, saidAsk}
-use Rattle.session.specs.Told.{Answer, reply, waited, wasReset, count as counts, mk}
-use Rattle.download.specs.Download.{download}
+use Rattle.session.specs.Told.{count as counts}
+use Rattle.start.specs.declared.Started.{Started}
 use Rattle.start.specs.Start.{beginOf, saidStart}
-use Rattle.papers.specs.Plan.{sum}
+use Rattle.promises.specs.Words.{DfuProtocol, Command, Request, Stage, End, Error, download, Phase, Session, Answer, reply, waited, wasReset, mk, DfuSansIo}
 use Rattle.promises.specs.Samples.{deviceOf, shows}
 use Rattle.promises.specs.Run.{opened, after, transfers}
 
@@ -66,13 +54,13 @@ begins x = beginOf (device x) (x .protocol) (x .length) (count (x .pages)) (x .b
 
 -- the run of a started session over told answers: its transfers in order, and what it says last, or its last session
 abbrev pub runOf : List ℕ → List Answer → Started → Outcome
-runOf ps more (Begun s) =
+runOf ps more (Started.Session s) =
     runs (transfers ((after (download ps) (opened s) more) .past)) (saidAsk (asksAt ((after (download ps) (opened s) more) .session .phase)))
-runOf ps more (Refused e) = unbegun (saidStart e)
+runOf ps more (Started.Refused e) = unbegun (saidStart e)
 
 abbrev pub endOf : List ℕ → List Answer → Started → Outcome
-endOf ps more (Begun s) = ends (transfers ((after (download ps) (opened s) more) .past)) ((after (download ps) (opened s) more) .session)
-endOf ps more (Refused e) = unbegun (saidStart e)
+endOf ps more (Started.Session s) = ends (transfers ((after (download ps) (opened s) more) .past)) ((after (download ps) (opened s) more) .session)
+endOf ps more (Started.Refused e) = unbegun (saidStart e)
 
 -- a write that is taken whole, waited for and answered with a state
 abbrev pub write : ℕ → ℕ → List Answer → List Answer
@@ -93,16 +81,16 @@ pub data Case : Type 0 where
   sessionEnd : Setting → List Answer → Outcome → Case
 
 abbrev pub at : ℕ → ℕ → List ℕ → ℕ → Setting
-at a n ps b = record { protocol = Dfuse a; size = 2048; tolerant = false; detach = false; length = n; pages = ps; budget = b }
+at a n ps b = record { protocol = DfuProtocol.Dfuse a; size = 2048; tolerant = false; detach = false; length = n; pages = ps; budget = b }
 
 abbrev pub plain : ℕ → ℕ → ℕ → Setting
-plain size n b = record { protocol = Dfu; size = size; tolerant = false; detach = false; length = n; pages = []; budget = b }
+plain size n b = record { protocol = DfuProtocol.Dfu; size = size; tolerant = false; detach = false; length = n; pages = []; budget = b }
 
 abbrev pub dfuse : ℕ → ℕ → ℕ → Setting
-dfuse size n b = record { protocol = Dfuse 0; size = size; tolerant = false; detach = false; length = n; pages = []; budget = b }
+dfuse size n b = record { protocol = DfuProtocol.Dfuse 0; size = size; tolerant = false; detach = false; length = n; pages = []; budget = b }
 
 abbrev pub tolerant : Setting
-tolerant = record { protocol = Dfu; size = 8; tolerant = true; detach = false; length = 4; pages = []; budget = 64 }
+tolerant = record { protocol = DfuProtocol.Dfu; size = 8; tolerant = true; detach = false; length = 4; pages = []; budget = 64 }
 
 -- document 01's whole case: the first case's 12 pages, a device that replies each awaited state at once
 abbrev pub wholeCase : ℕ → Setting
@@ -116,19 +104,19 @@ wholeAnswers = idle (write 5 5 (write 5 5 (write 2048 5 (write 2048 5 (write 4 5
 
 abbrev pub wholeTransfers : List Request → List Request
 wholeTransfers last =
-    GetStatus
-    ∷ GetStatus
-    ∷ Sends (Erase 0x08000000)
-    ∷ GetStatus
-    ∷ Sends (SetAddress 0x08000000)
-    ∷ GetStatus
-    ∷ Sends (Block 2 0 2048)
-    ∷ GetStatus
-    ∷ Sends (Block 3 2048 2048)
-    ∷ GetStatus
-    ∷ Sends (Block 4 4096 4)
-    ∷ GetStatus
-    ∷ Sends (Empty 5)
+    Request.GetStatus
+    ∷ Request.GetStatus
+    ∷ Request.Command (Command.Erase 0x08000000)
+    ∷ Request.GetStatus
+    ∷ Request.Command (Command.SetAddress 0x08000000)
+    ∷ Request.GetStatus
+    ∷ Request.Command (Command.Block 2 0 2048)
+    ∷ Request.GetStatus
+    ∷ Request.Command (Command.Block 3 2048 2048)
+    ∷ Request.GetStatus
+    ∷ Request.Command (Command.Block 4 4096 4)
+    ∷ Request.GetStatus
+    ∷ Request.Command (Command.Empty 5)
     ∷ last
 
 abbrev pub cases : List Case
@@ -148,31 +136,31 @@ cases =
     ∷ interfaceString "@SPI Flash : M25P64/0x00000000/128*064Kg" (reads (says 0 (0 ∷ 128 ∷ [])) 8388608)
     ∷ interfaceString "@NOR Flash : M29W128F/0x64000000/0256*64Kg" (reads (says 0 (0x64000000 ∷ 256 ∷ [])) 16777216)
     ∷ interfaceString "@Option Bytes  /0x1FFFF800/01*016Be" (reads (says 0 (0x1FFFF800 ∷ 1 ∷ [])) 16)
-    ∷ sessionRun (at 0xFFFFF000 4095 (4096 ∷ []) 64) (idle []) (runs (GetStatus ∷ GetStatus ∷ []) (says 4 []))
+    ∷ sessionRun (at 0xFFFFF000 4095 (4096 ∷ []) 64) (idle []) (runs (Request.GetStatus ∷ Request.GetStatus ∷ []) (says 4 []))
     ∷ sessionRun (at 0xFFFFF000 4096 (4096 ∷ []) 64) [] (unbegun (says 5 []))
     ∷ sessionRun (at 0 2048 (1024 ∷ 1024 ∷ []) 64) (idle (write 5 5 (write 5 5 [])))
-    (runs (GetStatus ∷ GetStatus ∷ Sends (Erase 0) ∷ GetStatus ∷ Sends (Erase 1024) ∷ GetStatus ∷ Sends (SetAddress 0) ∷ []) (says 0 []))
+    (runs (Request.GetStatus ∷ Request.GetStatus ∷ Request.Command (Command.Erase 0) ∷ Request.GetStatus ∷ Request.Command (Command.Erase 1024) ∷ Request.GetStatus ∷ Request.Command (Command.SetAddress 0) ∷ []) (says 0 []))
     ∷ sessionRun (at 0 2049 (1024 ∷ 1024 ∷ []) 64) (idle (write 5 5 (write 5 5 [])))
-    (runs (GetStatus ∷ GetStatus ∷ Sends (Erase 0) ∷ GetStatus ∷ Sends (Erase 1024) ∷ GetStatus ∷ []) (says 5 []))
-    ∷ sessionRun (plain 8 10 64) (idle (write 5 5 (write 5 5 []))) (runs (GetStatus ∷ GetStatus ∷ Sends (Block 0 0 8) ∷ []) (says 28 (5 ∷ 8 ∷ [])))
-    ∷ sessionRun (dfuse 8 524264 64) [] (runs (GetStatus ∷ []) (says 0 []))
+    (runs (Request.GetStatus ∷ Request.GetStatus ∷ Request.Command (Command.Erase 0) ∷ Request.GetStatus ∷ Request.Command (Command.Erase 1024) ∷ Request.GetStatus ∷ []) (says 5 []))
+    ∷ sessionRun (plain 8 10 64) (idle (write 5 5 (write 5 5 []))) (runs (Request.GetStatus ∷ Request.GetStatus ∷ Request.Command (Command.Block 0 0 8) ∷ []) (says 28 (5 ∷ 8 ∷ [])))
+    ∷ sessionRun (dfuse 8 524264 64) [] (runs (Request.GetStatus ∷ []) (says 0 []))
     ∷ sessionRun (dfuse 8 524280 64) [] (unbegun (says 29 []))
     ∷ sessionRun (plain 8 10 64) (failing 10 ∷ counts 0 ∷ shows 2 ∷ counts 8 ∷ waited ∷ failing 5 ∷ [])
-    (runs (GetStatus ∷ ClearStatus ∷ GetStatus ∷ Sends (Block 0 0 8) ∷ GetStatus ∷ []) (says 27 (3 ∷ [])))
-    ∷ sessionRun (wholeCase 14) wholeAnswers (runs (wholeTransfers (GetStatus ∷ [])) (says 0 []))
+    (runs (Request.GetStatus ∷ Request.ClearStatus ∷ Request.GetStatus ∷ Request.Command (Command.Block 0 0 8) ∷ Request.GetStatus ∷ []) (says 27 (3 ∷ [])))
+    ∷ sessionRun (wholeCase 14) wholeAnswers (runs (wholeTransfers (Request.GetStatus ∷ [])) (says 0 []))
     ∷ sessionRun (wholeCase 13) wholeAnswers (runs (wholeTransfers []) (says 23 []))
     ∷ sessionEnd tolerant (idle (write 4 5 (write 0 2 [])))
-    (ends (GetStatus ∷ GetStatus ∷ Sends (Block 0 0 4) ∷ GetStatus ∷ Sends (Empty 1) ∷ GetStatus ∷ [])
+    (ends (Request.GetStatus ∷ Request.GetStatus ∷ Request.Command (Command.Block 0 0 4) ∷ Request.GetStatus ∷ Request.Command (Command.Empty 1) ∷ Request.GetStatus ∷ [])
     (mk (record { dfuse = false; address = 0; length = 4; pages = 0; size = 8; tolerant = true; detach = false })
-    (record { stage = Ending; erased = 0; page = 0; accepted = 4 })
+    (record { stage = Stage.Ending; erased = 0; page = 0; accepted = 4 })
     58
-    (Finished Stays)))
+    (Phase.Finished End.Stays)))
     ∷ sessionEnd (at 16 4 (8 ∷ []) 2) (idle [])
-    (ends (GetStatus ∷ GetStatus ∷ [])
+    (ends (Request.GetStatus ∷ Request.GetStatus ∷ [])
     (mk (record { dfuse = true; address = 16; length = 4; pages = 1; size = 2048; tolerant = false; detach = false })
-    (record { stage = Erasing; erased = 16; page = 0; accepted = 0 })
+    (record { stage = Stage.Erasing; erased = 16; page = 0; accepted = 0 })
     0
-    (Ended BudgetSpent)))
+    (Phase.Refused Error.BudgetSpent)))
     ∷ []
 
 abbrev pub run : Case → Outcome

@@ -4,36 +4,31 @@ use mathlib.Core.Path.{_≡_}
 use mathlib.Core.Bool.{Bool}
 use mathlib.Core.List.{List, [], _∷_, _++_, map}
 use lib.Dec.{eqb}
-use Rattle.ground.specs.Pick.{pick}
-use Rattle.wire.specs.declared.Command.{Command}
-use Rattle.wire.specs.declared.Command.the-variants.{Erase, SetAddress, Block, Empty}
-use Rattle.wire.specs.declared.Request.the-variants.{GetStatus, ClearStatus, Command as Commands}
-use Rattle.protocol.specs.declared.DfuProtocol.{DfuProtocol}
-use Rattle.start.specs.declared.DfuSansIo.{DfuSansIo}
-use Rattle.promises.specs.Run.{Event, sends, hears, inTime}
 use Rattle.plan.specs.Sent.{onWire, planOf}
+use Rattle.promises.specs.Words.{pick, DfuProtocol, Command, Request, DfuSansIo}
+use Rattle.promises.specs.Run.{Event, sends, hears, inTime}
 
 -- GETSTATUS; CLRSTATUS if and only if the reply said 10; GETSTATUS, whose reply says 2
 abbrev pub opening : ℕ → List Event
-opening st = sends GetStatus ∷ hears st ∷ (pick (eqb st 10) (sends ClearStatus ∷ []) [] ++ (sends GetStatus ∷ hears 2 ∷ []))
+opening st = sends Request.GetStatus ∷ hears st ∷ (pick (eqb st 10) (sends Request.ClearStatus ∷ []) [] ++ (sends Request.GetStatus ∷ hears 2 ∷ []))
 
 -- the busy state that a wait may meet and the target that ends it: 4 and 5; after the empty block 7, and 2 or 7
 abbrev pub busyAfter : Command → ℕ
-busyAfter (Erase a) = 4
-busyAfter (SetAddress a) = 4
-busyAfter (Block n f m) = 4
-busyAfter (Empty n) = 7
+busyAfter (Command.Erase a) = 4
+busyAfter (Command.SetAddress a) = 4
+busyAfter (Command.Block n f m) = 4
+busyAfter (Command.Empty n) = 7
 
 abbrev pub targetAfter : Bool → Command → ℕ
-targetAfter tolerant (Erase a) = 5
-targetAfter tolerant (SetAddress a) = 5
-targetAfter tolerant (Block n f m) = 5
-targetAfter tolerant (Empty n) = pick tolerant 2 7
+targetAfter tolerant (Command.Erase a) = 5
+targetAfter tolerant (Command.SetAddress a) = 5
+targetAfter tolerant (Command.Block n f m) = 5
+targetAfter tolerant (Command.Empty n) = pick tolerant 2 7
 
 -- GETSTATUS answered busy, so many times
 unfoldable pub looks : ℕ → ℕ → List Event
 looks busy zero = []
-looks busy (suc n) = sends GetStatus ∷ hears busy ∷ looks busy n
+looks busy (suc n) = sends Request.GetStatus ∷ hears busy ∷ looks busy n
 
 -- a download request, the busy replies of its wait, and the reply that shows the target
 pub record Round : Type 0 where
@@ -42,8 +37,8 @@ pub record Round : Type 0 where
 
 abbrev pub roundOf : Bool → Round → List Event
 roundOf tolerant r =
-    sends (Commands (r .command))
-    ∷ (looks (busyAfter (r .command)) (r .busy) ++ (sends GetStatus ∷ hears (targetAfter tolerant (r .command)) ∷ []))
+    sends (Request.Command (r .command))
+    ∷ (looks (busyAfter (r .command)) (r .busy) ++ (sends Request.GetStatus ∷ hears (targetAfter tolerant (r .command)) ∷ []))
 
 unfoldable pub rounds : Bool → List Round → List Event
 rounds tolerant [] = []

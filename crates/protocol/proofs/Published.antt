@@ -14,13 +14,9 @@ use Rattle.ground.specs.Bytes.{prefix}
 use Rattle.ground.proofs.Lists.{Without, without-both}
 use Rattle.ground.proofs.Tests.{lt-or-ge}
 use Rattle.number.specs.Number.{digitOf, readOn, numberOf}
-use Rattle.number.specs.declared.Number.the-variants.{Value}
 use Rattle.number.proofs.Reading.{go-on, unsigned}
 use Rattle.memory_layout.specs.Layout.{maxPages, maxText, split, factorOf, pieceOf}
-use Rattle.memory_layout.specs.declared.Piece.the-variants.{Run}
 use Rattle.memory_layout.proofs.Printed.{alone, first, piece, Announces, nothing, more, accepts}
-use Rattle.protocol.specs.declared.DfuProtocol.the-variants.{Dfuse}
-use Rattle.protocol.specs.declared.Interface.the-variants.{Read}
 use Rattle.protocol.specs.Interface.{whole, cut, rsplit, addressOf, done, dfuseOf, interfaceOf}
 use Rattle.papers.specs.Um0424.{
   either,
@@ -41,6 +37,10 @@ use Rattle.papers.specs.Um0424.{
   allPages,
   Printable,
 }
+use Rattle.number.specs.declared.Number.{Number}
+use Rattle.memory_layout.specs.declared.Piece.{Piece}
+use Rattle.protocol.specs.declared.DfuProtocol.{DfuProtocol}
+use Rattle.protocol.specs.declared.Interface.{Interface}
 
 -- a glyph is read as its digit, and is none of the bytes between numbers
 glyph-reads : (d : ℕ) → d < 16 → digitOf (glyph d) ≡ d
@@ -83,7 +83,7 @@ module _ (b : ℕ) (low : 0 < b) (high : b ≤ 16) where
       ∙ go-on b (glyph (n % b) ∷ rest) 0 (n / b) (n % b) (omega arith) (sym g) m (omega arith)
       ∙ ap (readOn b rest) q)
 
-  digits-read : (w n : ℕ) → 0 < w → n < b ^ w → n < 4294967296 → numberOf b (digits b w n) ≡ Value n
+  digits-read : (w n : ℕ) → 0 < w → n < b ^ w → n < 4294967296 → numberOf b (digits b w n) ≡ Number.Value n
   unfolding readOn
   digits-read w n p h k =
       unsigned b (digits b w n) (omega (arith, digits-length b w n)) (digits-without 43 b w n (omega arith))
@@ -129,7 +129,7 @@ module _ (r : Region) (good : Good r) where
       let sized = without-both x (decimal (r .size)) ends (digits-without x 10 _ _ h) (unit, (omega arith, tt)) in
       without-both x (decimal (r .count)) (42 ∷ (decimal (r .size) ++ ends)) (digits-without x 10 _ _ h) (n, sized)
 
-  region-reads : length (pages r) < 4294967296 → (at : ℕ) → pieceOf (region r) at ≡ Run (r .count .value) (r .size .value * times (r .unit))
+  region-reads : length (pages r) < 4294967296 → (at : ℕ) → pieceOf (region r) at ≡ Piece.Run (r .count .value) (r .size .value * times (r .unit))
   region-reads h at =
       let count = good .printable .0 in
       let size = good .printable .1 in
@@ -162,7 +162,7 @@ pub reads-st-strings : (name : List ℕ) (address : ℕ) (r : Region) (qs : List
     → address < 4294967296 → EachGood r qs
     → length (string name address r qs) ≤ maxText → length (allPages r qs) ≤ maxPages → length (allPages r qs) ≤ length store
     → interfaceOf (string name address r qs) (record { 0 = 1; 1 = 0x1a }) store
-    ≡ done (Read (Dfuse address) (length (allPages r qs))) (allPages r qs ++ drop (length (allPages r qs)) store)
+    ≡ done (Interface.Read (DfuProtocol.Dfuse address) (length (allPages r qs))) (allPages r qs ++ drop (length (allPages r qs)) store)
 unfolding interfaceOf dfuseOf addressOf prefix
 reads-st-strings name address r qs store a g t p s =
     let text = string name address r qs in

@@ -10,25 +10,24 @@ use Rattle.number.specs.Number.{numberOf}
 use Rattle.memory_layout.specs.Layout as layout
 use Rattle.memory_layout.specs.declared.Error.{Error as LayoutFault}
 use Rattle.memory_layout.specs.declared.MemoryLayout.{MemoryLayout}
-use Rattle.memory_layout.specs.declared.MemoryLayout.the-variants.{Pages, Refused as RefusedLayout}
-use Rattle.protocol.specs.declared.DfuProtocol.the-variants.{Dfuse}
-use Rattle.protocol.specs.declared.Error.the-variants.{InvalidInterfaceString, MemoryLayout as LayoutError}
-use Rattle.protocol.specs.declared.Interface.the-variants.{Read, Refused}
-use Rattle.protocol.specs.declared.Slash.the-variants.{At as SlashAt, Nowhere}
-use Rattle.protocol.specs.declared.Address.the-variants.{At, NoSlash, Bad}
 use Rattle.protocol.specs.Interface.{rsplit, placeOf, valueOf, addressOf, answered, done, leaves, dfuseOf}
+use Rattle.protocol.specs.declared.DfuProtocol.{DfuProtocol}
+use Rattle.protocol.specs.declared.Error.{Error}
+use Rattle.protocol.specs.declared.Interface.{Interface}
+use Rattle.protocol.specs.declared.Slash.{Slash}
+use Rattle.protocol.specs.declared.Address.{Address}
 use Rattle.protocol.proofs.Cuts.{at, nowhere}
 
 -- the text after a slash, as the code has it
 abbrev pub after : List ℕ → ℕ → List ℕ
 after s i = take (length s - (i + 1)) (drop (i + 1) s)
 
-pub no-address : (s : List ℕ) → placeOf (rsplit s) ≡ Nowhere → addressOf (rsplit s) ≡ NoSlash
+pub no-address : (s : List ℕ) → placeOf (rsplit s) ≡ Slash.Nowhere → addressOf (rsplit s) ≡ Address.NoSlash
 unfolding addressOf
 no-address s e = rw (nowhere s e)
 
-module _ (s : List ℕ) (i : ℕ) (e : placeOf (rsplit s) ≡ SlashAt i) where
-  pub bad-start : prefix (48 ∷ 120 ∷ []) (after s i) ≡ false → addressOf (rsplit s) ≡ Bad
+module _ (s : List ℕ) (i : ℕ) (e : placeOf (rsplit s) ≡ Slash.At i) where
+  pub bad-start : prefix (48 ∷ 120 ∷ []) (after s i) ≡ false → addressOf (rsplit s) ≡ Address.Bad
   unfolding addressOf
   bad-start h = rw (at s i e .1) (simp (sym (ap (prefix (48 ∷ 120 ∷ [])) (onwards (i + 1) s)) ∙ h))
 
@@ -38,11 +37,11 @@ module _ (s : List ℕ) (i : ℕ) (e : placeOf (rsplit s) ≡ SlashAt i) where
       rw (at s i e .1, onwards 2 (after s i))
       (simp (sym (ap (prefix (48 ∷ 120 ∷ [])) (onwards (i + 1) s)) ∙ h) (ap (λ (t : List ℕ). valueOf (numberOf 16 (drop 2 t))) (sym (onwards (i + 1) s))))
 
-pub no-layout : (s store : List ℕ) → placeOf (rsplit s) ≡ Nowhere → dfuseOf (rsplit s) store ≡ done (Refused InvalidInterfaceString) store
+pub no-layout : (s store : List ℕ) → placeOf (rsplit s) ≡ Slash.Nowhere → dfuseOf (rsplit s) store ≡ done (Interface.Refused Error.InvalidInterfaceString) store
 unfolding dfuseOf
 no-layout s store e = rw (nowhere s e)
 
-pub with-layout : (s store : List ℕ) (i : ℕ) → placeOf (rsplit s) ≡ SlashAt i
+pub with-layout : (s store : List ℕ) (i : ℕ) → placeOf (rsplit s) ≡ Slash.At i
     → dfuseOf (rsplit s) store ≡ leaves (answered (layout.checked (length store) (after s i)) (addressOf (rsplit (take i s)))) (after s i) store
 unfolding dfuseOf
 with-layout s store i e =
@@ -58,17 +57,17 @@ module _ (r : MemoryLayout) (text before now : List ℕ) (e : layout.done r now 
   unfolding layout.layoutOf
   holds = ap (λ (d : layout.Done). d .store) e
 
-  pub stored : (n a : ℕ) → r ≡ Pages n → done (Read (Dfuse a) n) now ≡ leaves (answered (layout.checked (length before) text) (At a)) text before
-  stored n a p = let c : layout.checked (length before) text ≡ Pages n = sym read-as ∙ p in rw c (ap (done (Read (Dfuse a) n)) (holds ∙ rw c))
+  pub stored : (n a : ℕ) → r ≡ MemoryLayout.Pages n → done (Interface.Read (DfuProtocol.Dfuse a) n) now ≡ leaves (answered (layout.checked (length before) text) (Address.At a)) text before
+  stored n a p = let c : layout.checked (length before) text ≡ MemoryLayout.Pages n = sym read-as ∙ p in rw c (ap (done (Interface.Read (DfuProtocol.Dfuse a) n)) (holds ∙ rw c))
 
-  pub kept : (f : LayoutFault) (a : ℕ) → r ≡ RefusedLayout f → done (Refused (LayoutError f)) now ≡ leaves (answered (layout.checked (length before) text) (At a)) text before
-  kept f a p = let c : layout.checked (length before) text ≡ RefusedLayout f = sym read-as ∙ p in rw c (ap (done (Refused (LayoutError f))) (holds ∙ rw c))
+  pub kept : (f : LayoutFault) (a : ℕ) → r ≡ MemoryLayout.Refused f → done (Interface.Refused (Error.MemoryLayout f)) now ≡ leaves (answered (layout.checked (length before) text) (Address.At a)) text before
+  kept f a p = let c : layout.checked (length before) text ≡ MemoryLayout.Refused f = sym read-as ∙ p in rw c (ap (done (Interface.Refused (Error.MemoryLayout f))) (holds ∙ rw c))
 
 -- a refusal settles with the store as it was
-pub refuses : (l : MemoryLayout) (text before : List ℕ) → done (answered l NoSlash) before ≡ leaves (answered l NoSlash) text before
-refuses (Pages n) text before = refl
-refuses (RefusedLayout f) text before = refl
+pub refuses : (l : MemoryLayout) (text before : List ℕ) → done (answered l Address.NoSlash) before ≡ leaves (answered l Address.NoSlash) text before
+refuses (MemoryLayout.Pages n) text before = refl
+refuses (MemoryLayout.Refused f) text before = refl
 
-pub refuses-bad : (l : MemoryLayout) (text before : List ℕ) → done (answered l Bad) before ≡ leaves (answered l Bad) text before
-refuses-bad (Pages n) text before = refl
-refuses-bad (RefusedLayout f) text before = refl
+pub refuses-bad : (l : MemoryLayout) (text before : List ℕ) → done (answered l Address.Bad) before ≡ leaves (answered l Address.Bad) text before
+refuses-bad (MemoryLayout.Pages n) text before = refl
+refuses-bad (MemoryLayout.Refused f) text before = refl

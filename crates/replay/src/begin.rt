@@ -1,12 +1,12 @@
 // `begin`: a start by its numbers alone.
-use crate::output;
 use crate::starting;
 use crate::starting::Target;
 use crate::starting::Targeted;
 use crate::transcript;
-use crate::words;
-use crate::words::Amount;
-use crate::words::Found;
+use cases::output;
+use cases::words;
+use cases::words::Amount;
+use cases::words::Found;
 use start::Started;
 
 // `begin KIND ADDRESS OVERRIDE SIZE LENGTH BUDGET PAGECOUNT`
@@ -54,14 +54,13 @@ fn with_values(
 
 fn answer(started: Started, out: &mut [u8], at: usize) -> usize {
     let at = output::text(out, at, b"begin");
+    let at = started_words(started, out, at);
+    output::line_end(out, at)
+}
+
+fn started_words(started: Started, out: &mut [u8], at: usize) -> usize {
     match started {
-        Started::Refused(e) => {
-            let at = output::refused(out, at, starting::refusal_of(e));
-            output::line_end(out, at)
-        }
-        Started::Session(session) => {
-            let at = transcript::words(session.asks(), b"", 0, out, at);
-            output::line_end(out, at)
-        }
+        Started::Refused(e) => output::refused(out, at, starting::refusal_of(e)),
+        Started::Session(session) => transcript::words(session.asks(), b"", 0, out, at),
     }
 }

@@ -1,8 +1,9 @@
 // A session under way, and the calls that tell it something.
 use crate::row;
 use crate::told::Event;
+use crate::told::Loan;
 use crate::transcript;
-use crate::words;
+use cases::words;
 use machine::Ask;
 use session::Session;
 use session::Step;
@@ -12,6 +13,27 @@ pub struct Lent {
     pub firmware: usize,
     pub pages: usize,
     pub command: usize,
+}
+
+// The same with one of them changed.
+fn lent_by(lent: Lent, loan: Loan) -> Lent {
+    match loan {
+        Loan::Firmware(n) => Lent {
+            firmware: n,
+            pages: lent.pages,
+            command: lent.command,
+        },
+        Loan::Pages(n) => Lent {
+            firmware: lent.firmware,
+            pages: n,
+            command: lent.command,
+        },
+        Loan::Command(n) => Lent {
+            firmware: lent.firmware,
+            pages: lent.pages,
+            command: n,
+        },
+    }
 }
 
 pub struct Case {
@@ -41,21 +63,18 @@ pub fn begun(session: Session, usual: Lent, budget: u64, at: usize) -> Case {
 
 impl Case {
     // The case with another loan for the next call.
-    pub fn lending(self, firmware: usize, pages: usize, command: usize) -> Case {
+    pub fn lending(self, loan: Loan) -> Case {
         let session = self.session;
         let says = self.says;
         let lent = self.lent;
         let usual = self.usual;
+        let next = lent_by(self.next, loan);
         Case {
             session,
             says,
             lent,
             usual,
-            next: Lent {
-                firmware,
-                pages,
-                command,
-            },
+            next,
             budget: self.budget,
             at: self.at,
         }
@@ -122,6 +141,18 @@ pub fn is_end(says: Ask) -> bool {
     }
 }
 
+// The reply of six bytes.
+fn six(
+    session: Session,
+    poll: u8,
+    state: u8,
+    firmware: &[u8],
+    pages: &[u32],
+    command: &mut [u8],
+) -> Step {
+    session.told_reply(&[0, poll, 0, 0, state, 0], firmware, pages, command)
+}
+
 // One call, with just what it lends.
 fn called(
     session: Session,
@@ -134,12 +165,7 @@ fn called(
     match event {
         Event::Count(n) => session.told_count(n, firmware, pages, command),
         Event::Reply(len) => session.told_reply(words::first(bytes, len), firmware, pages, command),
-        Event::State { poll, state } => session.told_reply(
-            &[0, poll, 0, 0, state, 0],
-            firmware,
-            pages,
-            command,
-        ),
+        Event::State { poll, state } => six(session, poll, state, firmware, pages, command),
         Event::Wait => session.told_wait(firmware, pages, command),
         Event::Reset => session.told_reset(firmware, pages, command),
         Event::Failure => session.told_failure(firmware, pages, command),

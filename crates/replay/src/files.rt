@@ -1,8 +1,8 @@
 // The case of a whole file: it is read by its suffix, and answered.
-use crate::output;
-use crate::output::Refusal;
-use crate::words;
-use crate::words::Bytes;
+use cases::output;
+use cases::output::Refusal;
+use cases::words;
+use cases::words::Bytes;
 use suffix::Identities;
 use suffix::Suffix;
 
@@ -21,15 +21,24 @@ pub fn answer(line: &[u8], bytes: &mut [u8], out: &mut [u8], at: usize) -> usize
 fn file_words(file: &[u8], out: &mut [u8], at: usize) -> usize {
     let at = output::text(out, at, b"suffix");
     let read = Suffix::read(file);
+    let Suffix::Read { identities, crc } = read else {
+        return output::refused(out, at, Refusal::Plain(number(read)));
+    };
+    let firmware = Suffix::firmware(file);
+    output::values(out, at, &facts(identities, crc, firmware.len()))
+}
+
+// The refusal of a file; 0 for one that was read.
+fn number(read: Suffix) -> u64 {
     match read {
-        Suffix::FileTooShort => output::refused(out, at, Refusal::Plain(40)),
-        Suffix::NoSignature => output::refused(out, at, Refusal::Plain(41)),
-        Suffix::WrongLength => output::refused(out, at, Refusal::Plain(42)),
-        Suffix::WrongCrc => output::refused(out, at, Refusal::Plain(43)),
-        Suffix::Read { identities, crc } => {
-            let firmware = Suffix::firmware(file);
-            output::values(out, at, &facts(identities, crc, firmware.len()))
-        }
+        Suffix::FileTooShort => 40,
+        Suffix::NoSignature => 41,
+        Suffix::WrongLength => 42,
+        Suffix::WrongCrc => 43,
+        Suffix::Read {
+            identities: _,
+            crc: _,
+        } => 0,
     }
 }
 

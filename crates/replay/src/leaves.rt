@@ -1,10 +1,10 @@
 // The cases that are one call: each line is read to its end, and then the call is made and answered.
-use crate::output;
-use crate::output::Refusal;
 use crate::store;
-use crate::words;
-use crate::words::Amount;
-use crate::words::Bytes;
+use cases::output;
+use cases::output::Refusal;
+use cases::words;
+use cases::words::Amount;
+use cases::words::Bytes;
 use functional_descriptor::Descriptor;
 use functional_descriptor::FunctionalDescriptor;
 use get_status::GetStatusMessage;
@@ -266,14 +266,16 @@ fn string_words(i: Interface, store: &[u32], out: &mut [u8], at: usize) -> usize
     match i {
         Interface::Read { protocol, pages } => match protocol {
             DfuProtocol::Dfu => output::text(out, at, b" plain"),
-            DfuProtocol::Dfuse { address } => {
-                let at = output::text(out, at, b" dfuse");
-                let at = output::value(out, at, address as u64);
-                output::pages(out, at, store, pages)
-            }
+            DfuProtocol::Dfuse { address } => dfuse(address as u64, store, pages, out, at),
         },
         Interface::Refused(e) => output::refused(out, at, refusal_of(e)),
     }
+}
+
+fn dfuse(address: u64, store: &[u32], pages: usize, out: &mut [u8], at: usize) -> usize {
+    let at = output::text(out, at, b" dfuse");
+    let at = output::value(out, at, address);
+    output::pages(out, at, store, pages)
 }
 
 // The refusal of a version or an interface string.

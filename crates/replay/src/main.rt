@@ -6,18 +6,18 @@ mod files;
 mod firmware;
 mod kinds;
 mod leaves;
-mod lines;
-mod output;
 mod row;
 mod sessions;
 mod starting;
 mod store;
 mod told;
 mod transcript;
-mod words;
 
+use cases::lines;
+use cases::lines::Place;
+use cases::output;
+use cases::words;
 use kinds::Kind;
-use lines::Place;
 
 // Answers a line. `bytes` takes the bytes of its HEX words, and `store` is the page store; `firmware` and `pages` are
 // what sessions lend.

@@ -1,8 +1,8 @@
 // The pages of a session: a row of numbers, each 0 between two cases.
 use crate::starting;
-use crate::words;
-use crate::words::Amount;
-use crate::words::Found;
+use cases::words;
+use cases::words::Amount;
+use cases::words::Found;
 
 // How many pages were put into the row, where their word ends, and whether it is one.
 pub struct Row {

@@ -3,17 +3,18 @@ use crate::auto;
 use crate::case;
 use crate::case::Case;
 use crate::case::Lent;
-use crate::output;
 use crate::row;
 use crate::row::Row;
 use crate::starting;
 use crate::starting::Target;
 use crate::starting::Targeted;
 use crate::told;
+use crate::told::Event;
 use crate::told::Word;
 use crate::transcript;
-use crate::words;
-use crate::words::Found;
+use cases::output;
+use cases::words;
+use cases::words::Found;
 use start::StartError;
 use start::Started;
 
@@ -105,19 +106,34 @@ fn with_row(
             if !told::are_words(line, end, bytes) {
                 return output::bad_line(out, at);
             }
-            let usual = Lent {
-                firmware: plan.length,
-                pages: row.n,
-                command: plan.command,
-            };
-            let started = start(plan, usual, firmware, pages);
-            match started {
-                Started::Refused(e) => refused(e, plan.command, out, at),
-                Started::Session(session) => {
-                    let case = case::begun(session, usual, plan.budget, at);
-                    run(case, line, end, bytes, firmware, pages, out)
-                }
-            }
+            with_words(line, end, plan, row.n, bytes, firmware, pages, out, at)
+        }
+    }
+}
+
+// The start, and the words if it is not refused.
+fn with_words(
+    line: &[u8],
+    from: usize,
+    plan: Plan,
+    n: usize,
+    bytes: &mut [u8],
+    firmware: &[u8],
+    pages: &[u32],
+    out: &mut [u8],
+    at: usize,
+) -> usize {
+    let usual = Lent {
+        firmware: plan.length,
+        pages: n,
+        command: plan.command,
+    };
+    let started = start(plan, usual, firmware, pages);
+    match started {
+        Started::Refused(e) => refused(e, plan.command, out, at),
+        Started::Session(session) => {
+            let case = case::begun(session, usual, plan.budget, at);
+            run(case, line, from, bytes, firmware, pages, out)
         }
     }
 }
@@ -206,6 +222,20 @@ fn told_word(
     }
 }
 
+// A call, and its line.
+fn called(
+    case: Case,
+    event: Event,
+    bytes: &[u8],
+    firmware: &[u8],
+    pages: &[u32],
+    command: &mut [u8],
+    out: &mut [u8],
+) -> Case {
+    let case = case::tell(case, event, bytes, firmware, pages, command);
+    case::write(case, firmware, command, out)
+}
+
 // What a word does.
 fn obeyed(
     case: Case,
@@ -218,22 +248,8 @@ fn obeyed(
 ) -> Case {
     match word {
         Word::Bad => case,
-        Word::Call(event) => {
-            let case = case::tell(case, event, bytes, firmware, pages, command);
-            case::write(case, firmware, command, out)
-        }
-        Word::Firmware(n) => {
-            let next = case.next;
-            case.lending(n, next.pages, next.command)
-        }
-        Word::Pages(n) => {
-            let next = case.next;
-            case.lending(next.firmware, n, next.command)
-        }
-        Word::Command(n) => {
-            let next = case.next;
-            case.lending(next.firmware, next.pages, n)
-        }
+        Word::Call(event) => called(case, event, bytes, firmware, pages, command, out),
+        Word::Lend(loan) => case.lending(loan),
         Word::Auto(each) => auto::shown(case, each, firmware, pages, command, out),
         Word::Quiet(each) => auto::quiet(case, each, firmware, pages, command, out),
         Word::Rounds(n) => auto::rounds(case, n, firmware, pages, command, out),

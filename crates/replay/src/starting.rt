@@ -1,8 +1,8 @@
 // What a download is started from: the words that `begin` and `session` have first, and what they mean.
-use crate::output::Refusal;
-use crate::words;
-use crate::words::Amount;
-use crate::words::Found;
+use cases::output::Refusal;
+use cases::words;
+use cases::words::Amount;
+use cases::words::Found;
 use functional_descriptor::FunctionalDescriptor;
 use ground::Version;
 use protocol::DfuProtocol;

@@ -1,7 +1,7 @@
 // The words of what the host does in a session.
-use crate::words;
-use crate::words::Amount;
-use crate::words::Bytes;
+use cases::words;
+use cases::words::Amount;
+use cases::words::Bytes;
 
 // What a call tells.
 pub enum Event {
@@ -14,13 +14,18 @@ pub enum Event {
     Failure,
 }
 
+// How much of one thing a call lends.
+pub enum Loan {
+    Firmware(usize),
+    Pages(usize),
+    Command(usize),
+}
+
 pub enum Word {
     Bad,
     Call(Event),
     // What the next call lends.
-    Firmware(usize),
-    Pages(usize),
-    Command(usize),
+    Lend(Loan),
     // What is awaited, with so many busy replies to each wait; quiet, and rounds of three calls.
     Auto(u64),
     Quiet(u64),
@@ -70,9 +75,9 @@ fn limit(letter: u8) -> u64 {
 fn numbered(letter: u8, n: u64) -> Word {
     match letter {
         b'c' => Word::Call(Event::Count(n)),
-        b'L' => Word::Firmware(n as usize),
-        b'P' => Word::Pages(n as usize),
-        b'M' => Word::Command(n as usize),
+        b'L' => Word::Lend(Loan::Firmware(n as usize)),
+        b'P' => Word::Lend(Loan::Pages(n as usize)),
+        b'M' => Word::Lend(Loan::Command(n as usize)),
         b'a' => Word::Auto(n),
         b'q' => Word::Quiet(n),
         b's' => Word::Rounds(n),

@@ -1,7 +1,7 @@
 // What a session says, in words.
 use crate::firmware;
-use crate::output;
-use crate::output::Refusal;
+use cases::output;
+use cases::output::Refusal;
 use machine::Ask;
 use session::Step;
 use wire::Command;
@@ -13,16 +13,22 @@ use work::Error;
 pub fn words(says: Ask, data: &[u8], length: usize, out: &mut [u8], at: usize) -> usize {
     match says {
         Ask::Transfer(request) => transfer(request, data, length, out, at),
-        Ask::Wait(ms) => {
-            let at = output::text(out, at, b" wait");
-            output::value(out, at, ms as u64)
-        }
+        Ask::Wait(ms) => wait(ms as u64, out, at),
         Ask::Reset => output::text(out, at, b" reset"),
-        Ask::Finished(end) => match end {
-            End::Stays => output::text(out, at, b" finished stays"),
-            End::Reset => output::text(out, at, b" finished reset"),
-        },
+        Ask::Finished(end) => finished(end, out, at),
         Ask::Refused(e) => output::refused(out, at, refusal_of(e)),
+    }
+}
+
+fn wait(ms: u64, out: &mut [u8], at: usize) -> usize {
+    let at = output::text(out, at, b" wait");
+    output::value(out, at, ms)
+}
+
+fn finished(end: End, out: &mut [u8], at: usize) -> usize {
+    match end {
+        End::Stays => output::text(out, at, b" finished stays"),
+        End::Reset => output::text(out, at, b" finished reset"),
     }
 }
 
@@ -30,13 +36,21 @@ fn transfer(request: Request, data: &[u8], length: usize, out: &mut [u8], at: us
     let c = request.control();
     let head = [c.request_type as u64, c.request as u64, c.value as u64];
     if 0 < c.takes {
-        let at = output::text(out, at, b" read");
-        let at = output::values(out, at, &head);
-        return output::value(out, at, c.takes as u64);
+        return read(head, c.takes as u64, out, at);
     }
-    let at = output::text(out, at, b" write");
-    let at = output::values(out, at, &head);
+    let at = write(head, out, at);
     carried(request, data, length, out, at)
+}
+
+fn read(head: [u64; 3], takes: u64, out: &mut [u8], at: usize) -> usize {
+    let at = output::text(out, at, b" read");
+    let at = output::values(out, at, &head);
+    output::value(out, at, takes)
+}
+
+fn write(head: [u64; 3], out: &mut [u8], at: usize) -> usize {
+    let at = output::text(out, at, b" write");
+    output::values(out, at, &head)
 }
 
 // What a write carries.

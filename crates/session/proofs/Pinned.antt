@@ -6,8 +6,8 @@ use borrow.Fn.World.{ResD}
 use denote.Triple.Clauses.{AtExit}
 use denote.Ref.{now}
 use Rattle.ground.specs.Pins.{Pins}
-use Rattle.session.specs.Calls.{out}
 use Rattle.machine.specs.declared.Ask.{Ask}
+use Rattle.session.specs.Calls.{out}
 use Rattle.session.specs.declared.Step.{Step}
 use Rattle.session.proofs.Session.asks.Kinds as asks-kinds
 use Rattle.session.proofs.Session.asks.Reads as asks-reads

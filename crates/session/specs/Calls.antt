@@ -3,22 +3,18 @@ use Prim.Native.Nat.{ℕ}
 use mathlib.Core.Bool.{Bool, true, false}
 use mathlib.Core.List.{List, []}
 use lib.Dec.{eqb, ltb}
-use Rattle.ground.specs.Pick.{pick}
-use Rattle.work.specs.declared.Error.the-variants.{NotAsAtStart}
-use Rattle.machine.specs.declared.Phase.{Phase}
-use Rattle.machine.specs.declared.Phase.the-variants.{First, Clear, Second, Sent, Waiting, Resetting, Finished, Refused}
-use Rattle.work.specs.declared.Setup.{Setup}
-use Rattle.session.specs.declared.Session.{Session}
-use Rattle.machine.specs.declared.Ask.{Ask}
-use Rattle.machine.specs.declared.Ask.the-variants.{Transfer, Wait as WaitFor, Reset as ResetBus, Finished as HasFinished, Refused as SaysNo}
-use Rattle.session.specs.declared.Step.{Step}
 use lib.ListN.{length}
+use Rattle.ground.specs.Pick.{pick}
+use Rattle.wire.specs.Wire.{filledFor, requestData}
+use Rattle.work.specs.declared.Setup.{Setup}
+use Rattle.work.specs.declared.Error.{Error}
+use Rattle.download.specs.Download.{download}
+use Rattle.machine.specs.declared.Ask.{Ask}
 use Rattle.machine.specs.Machine.{asksAt, liveb}
+use Rattle.session.specs.declared.Session.{Session}
+use Rattle.session.specs.declared.Step.{Step}
 use Rattle.session.specs.Told.{Answer, told}
 use Rattle.session.specs.declared.Guard.{Guard}
-use Rattle.session.specs.declared.Guard.the-variants.{Open, Shut}
-use Rattle.wire.specs.Wire.{filledFor, requestData}
-use Rattle.download.specs.Download.{download}
 
 -- firmware and page count as at start, and 5 command bytes; plain DFU doesn't count pages
 unfoldable pub asAtStart : Setup → ℕ → ℕ → ℕ → Bool
@@ -28,23 +24,23 @@ asAtStart su firmware pages command =
 -- an ended session repeats its answer; on a live one 25 is tested before all else
 unfoldable pub guardOf : Session → ℕ → ℕ → ℕ → Guard
 guardOf s firmware pages command =
-    pick (liveb (s .phase)) (pick (asAtStart (s .setup) firmware pages command) Open (Shut (SaysNo NotAsAtStart))) (Shut (asksAt (s .phase)))
+    pick (liveb (s .phase)) (pick (asAtStart (s .setup) firmware pages command) Guard.Open (Guard.Shut (Ask.Refused Error.NotAsAtStart))) (Guard.Shut (asksAt (s .phase)))
 
 abbrev pub through : Guard → Session → Step → Step
-through Open s st = st
-through (Shut ask) s st = record { next = s; says = ask }
+through Guard.Open s st = st
+through (Guard.Shut ask) s st = record { next = s; says = ask }
 
 -- a call, with what is lent to it
 unfoldable pub called : ℕ → List ℕ → ℕ → Session → Answer → Step
 called firmware ps command s a = through (guardOf s firmware (length ps) command) s (told (download ps) s a)
 
--- by a call that issues a request
+-- the command bytes after a call: filled for the request that it issues
 abbrev pub filledBy : Ask → List ℕ → List ℕ
-filledBy (Transfer q) cmd = filledFor q cmd
-filledBy (WaitFor ms) cmd = cmd
-filledBy ResetBus cmd = cmd
-filledBy (HasFinished e) cmd = cmd
-filledBy (SaysNo e) cmd = cmd
+filledBy (Ask.Transfer q) cmd = filledFor q cmd
+filledBy (Ask.Wait ms) cmd = cmd
+filledBy Ask.Reset cmd = cmd
+filledBy (Ask.Finished e) cmd = cmd
+filledBy (Ask.Refused e) cmd = cmd
 
 -- what a call answers, and the command bytes after it
 pub record Outcome : Type 0 where
@@ -60,12 +56,13 @@ filled st cmd = out st (filledBy (st .says) cmd)
 unfoldable pub callOf : List ℕ → List ℕ → List ℕ → Session → Answer → Outcome
 callOf firmware ps cmd s a = filled (called (length firmware) ps (length cmd) s a) cmd
 
+-- the data of what is asked
 abbrev pub askData : Ask → List ℕ → List ℕ → List ℕ
-askData (Transfer q) fw cmd = requestData q fw cmd
-askData (WaitFor ms) fw cmd = []
-askData ResetBus fw cmd = []
-askData (HasFinished e) fw cmd = []
-askData (SaysNo e) fw cmd = []
+askData (Ask.Transfer q) fw cmd = requestData q fw cmd
+askData (Ask.Wait ms) fw cmd = []
+askData Ask.Reset fw cmd = []
+askData (Ask.Finished e) fw cmd = []
+askData (Ask.Refused e) fw cmd = []
 
 -- where firmware length and command bytes are as the tellings ask; else nothing
 unfoldable pub dataOf : Session → List ℕ → List ℕ → List ℕ

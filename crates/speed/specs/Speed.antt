@@ -7,18 +7,14 @@ use Rattle.ground.specs.Pick.{pick}
 use Rattle.memory_layout.specs.Layout.{Done, saidError}
 use Rattle.memory_layout.specs.declared.Error.{Error}
 use Rattle.memory_layout.specs.declared.MemoryLayout.{MemoryLayout}
-use Rattle.memory_layout.specs.declared.MemoryLayout.the-variants.{Pages, Refused}
-use Rattle.protocol.specs.declared.DfuProtocol.the-variants.{Dfuse}
-use Rattle.session.specs.Calls.{Outcome, callOf}
-use Rattle.start.specs.Start.{newIo, beginOf}
+use Rattle.protocol.specs.declared.DfuProtocol.{DfuProtocol}
 use Rattle.machine.specs.declared.Phase.{Phase}
-use Rattle.machine.specs.declared.Phase.the-variants.{First, Clear, Second, Sent, Waiting, Resetting, Finished, Refused as Ended}
-use Rattle.session.specs.declared.Session.{Session}
 use Rattle.machine.specs.declared.Ask.{Ask}
-use Rattle.machine.specs.declared.Ask.the-variants.{Transfer, Wait as WaitFor, Reset as ResetBus, Finished as HasFinished, Refused as SaysNo}
+use Rattle.session.specs.Calls.{Outcome, callOf}
+use Rattle.session.specs.declared.Session.{Session}
+use Rattle.start.specs.Start.{newIo, beginOf}
 use Rattle.start.specs.declared.DfuSansIo.{DfuSansIo}
 use Rattle.start.specs.declared.Started.{Started}
-use Rattle.start.specs.declared.Started.the-variants.{Session as Begun, Refused as Unbegun}
 use Rattle.plan.specs.Answers.{ideal}
 
 -- 2^63 and document 01's number of the refusal
@@ -27,8 +23,8 @@ refusalOf e = 9223372036854775808 + saidError e .number
 
 -- how many pages, or the refusal
 abbrev pub layoutNumber : MemoryLayout → ℕ
-layoutNumber (Pages n) = n
-layoutNumber (Refused e) = refusalOf e
+layoutNumber (MemoryLayout.Pages n) = n
+layoutNumber (MemoryLayout.Refused e) = refusalOf e
 
 -- a number, and the store after the call
 pub record Answered : Type 0 where
@@ -44,22 +40,22 @@ answeredOf d = answered (layoutNumber (d .answer)) (d .store)
 
 -- whether a finish or a refusal was said
 abbrev pub endb : Ask → Bool
-endb (Transfer q) = false
-endb (WaitFor ms) = false
-endb ResetBus = false
-endb (HasFinished e) = true
-endb (SaysNo e) = true
+endb (Ask.Transfer q) = false
+endb (Ask.Wait ms) = false
+endb Ask.Reset = false
+endb (Ask.Finished e) = true
+endb (Ask.Refused e) = true
 
 -- the transfers that a finished session has asked: what is gone of its budget; 0 for any other
 abbrev pub askedAt : Phase → ℕ → ℕ
-askedAt First left = 0
-askedAt Clear left = 0
-askedAt Second left = 0
-askedAt (Sent c) left = 0
-askedAt (Waiting x) left = 0
-askedAt Resetting left = 0
-askedAt (Finished e) left = 18446744073709551615 - left
-askedAt (Ended e) left = 0
+askedAt Phase.First left = 0
+askedAt Phase.Clear left = 0
+askedAt Phase.Second left = 0
+askedAt (Phase.Sent c) left = 0
+askedAt (Phase.Waiting x) left = 0
+askedAt Phase.Resetting left = 0
+askedAt (Phase.Finished e) left = 18446744073709551615 - left
+askedAt (Phase.Refused e) left = 0
 
 abbrev pub askedOf : Session → ℕ
 askedOf s = askedAt (s .phase) (s .left)
@@ -89,8 +85,8 @@ deviceOf size =
 
 -- the session that was begun is run; none if start refuses
 abbrev pub runOf : List ℕ → List ℕ → Started → ℕ
-runOf fw ps (Begun s) = ranOf fw ps 1000000 (0 ∷ 0 ∷ 0 ∷ 0 ∷ 0 ∷ []) s
-runOf fw ps (Unbegun e) = 0
+runOf fw ps (Started.Session s) = ranOf fw ps 1000000 (0 ∷ 0 ∷ 0 ∷ 0 ∷ 0 ∷ []) s
+runOf fw ps (Started.Refused e) = 0
 
 abbrev pub sessionOf : List ℕ → List ℕ → ℕ → ℕ → ℕ
-sessionOf fw ps address size = runOf fw ps (beginOf (deviceOf size) (Dfuse address) (length fw) (length ps) 18446744073709551615)
+sessionOf fw ps address size = runOf fw ps (beginOf (deviceOf size) (DfuProtocol.Dfuse address) (length fw) (length ps) 18446744073709551615)

@@ -3,7 +3,6 @@ ghost use mathlib.Core.Path.{_≡_};
 ghost use Rattle.memory_layout.specs.Layout.{layoutOf, saidError};
 ghost use mathlib.Core.List.{[], _∷_};
 ghost use lib.ListN.{length};
-ghost use Rattle.protocol.specs.declared.DfuProtocol.the-variants.{Dfuse};
 ghost use Rattle.start.specs.Start.{beginOf};
 ghost use Rattle.speed.specs.Speed.{layoutNumber, answered, answeredOf, endb, askedOf, ranOf, deviceOf, sessionOf};
 use functional_descriptor::FunctionalDescriptor;
@@ -16,6 +15,7 @@ use protocol::DfuProtocol;
 use session::Session;
 use start::DfuSansIo;
 use start::Started;
+ghost use Rattle.protocol.specs.declared.DfuProtocol.{DfuProtocol};
 
 // What is added to a refusal's number: 2^63, which no number of pages reaches.
 const REFUSED: u64 = 9223372036854775808;
@@ -59,7 +59,7 @@ pub extern "C" fn rt_layout(text: &[u8], store: &mut [u32]) -> u64
 
 // A DfuSe session for a device with a transfer size that stays on the bus, its budget as large as can be.
 fn started(firmware: &[u8], pages: &[u32], address: u32, size: u16) -> Started
-    ensures { λ r. ⌜ r ≡ beginOf (deviceOf size) (Dfuse address) (length (now (firmware .entry))) (length (now (pages .entry))) 18446744073709551615 ⌝ }
+    ensures { λ r. ⌜ r ≡ beginOf (deviceOf size) (DfuProtocol.Dfuse address) (length (now (firmware .entry))) (length (now (pages .entry))) 18446744073709551615 ⌝ }
 {
     let descriptor = FunctionalDescriptor {
         can_download: true,

@@ -2,9 +2,9 @@
 use mathlib.Core.Path.{sym, _∙_}
 use mathlib.Core.Bool.{Bool}
 use Rattle.ground.specs.Pins.{Pins}
+use Rattle.protocol.specs.declared.UsbWriteControl.{UsbWriteControl}
 use Rattle.start.specs.declared.DfuSansIo.{DfuSansIo}
 use Rattle.start.specs.declared.Started.{Started}
-use Rattle.protocol.specs.declared.UsbWriteControl.{UsbWriteControl}
 use Rattle.start.proofs.is_many.Kinds as is-many-kinds
 use Rattle.start.proofs.is_many.Reads as is-many-reads
 use Rattle.start.proofs.DfuSansIo.new.Kinds as new-kinds

@@ -8,37 +8,33 @@ use Rattle.ground.specs.Said.{Said, says}
 use Rattle.functional_descriptor.specs.declared.FunctionalDescriptor.{FunctionalDescriptor}
 use Rattle.memory_layout.specs.Layout.{maxPages}
 use Rattle.protocol.specs.declared.DfuProtocol.{DfuProtocol}
-use Rattle.protocol.specs.declared.DfuProtocol.the-variants.{Dfu, Dfuse}
 use Rattle.work.specs.declared.Setup.{Setup}
 use Rattle.work.specs.declared.Progress.{Progress}
-use Rattle.work.specs.declared.Stage.the-variants.{Erasing, Writing}
-use Rattle.work.specs.declared.End.the-variants.{Stays}
-use Rattle.machine.specs.declared.Phase.the-variants.{First, Finished}
+use Rattle.work.specs.Work.{limit, endOf, blockCount}
+use Rattle.work.specs.declared.Stage.{Stage}
+use Rattle.work.specs.declared.End.{End}
+use Rattle.machine.specs.declared.Phase.{Phase}
+use Rattle.session.specs.Told.{mk}
 use Rattle.start.specs.declared.DfuSansIo.{DfuSansIo}
 use Rattle.start.specs.declared.Override.{Override}
-use Rattle.start.specs.declared.Override.the-variants.{Nothing, Address}
 use Rattle.start.specs.declared.StartError.{StartError}
-use Rattle.start.specs.declared.StartError.the-variants.{OutOfCapabilities, TooManyPages, NoSpaceLeft, TooManyBlocks, BudgetSpent}
 use Rattle.start.specs.declared.Started.{Started}
-use Rattle.start.specs.declared.Started.the-variants.{Session as Begun, Refused}
-use Rattle.session.specs.Told.{mk}
-use Rattle.work.specs.Work.{limit, endOf, blockCount}
 
 abbrev pub newIo : FunctionalDescriptor → DfuSansIo
-newIo d = record { descriptor = d; «override_address» = Nothing }
+newIo d = record { descriptor = d; «override_address» = Override.Nothing }
 
 abbrev pub withAddress : DfuSansIo → ℕ → DfuSansIo
-withAddress io a = record { descriptor = io .descriptor; «override_address» = Address a }
+withAddress io a = record { descriptor = io .descriptor; «override_address» = Override.Address a }
 
 abbrev pub dfuseb : DfuProtocol → Bool
-dfuseb Dfu = false
-dfuseb (Dfuse a) = true
+dfuseb DfuProtocol.Dfu = false
+dfuseb (DfuProtocol.Dfuse a) = true
 
 -- DfuSe's address is the override if there is one; plain DFU ignores both
 abbrev pub targetOf : DfuProtocol → Override → ℕ
-targetOf Dfu o = 0
-targetOf (Dfuse a) Nothing = a
-targetOf (Dfuse a) (Address b) = b
+targetOf DfuProtocol.Dfu o = 0
+targetOf (DfuProtocol.Dfuse a) Override.Nothing = a
+targetOf (DfuProtocol.Dfuse a) (Override.Address b) = b
 
 abbrev pub setupOf : DfuSansIo → DfuProtocol → ℕ → ℕ → Setup
 setupOf io p length pages = record {
@@ -54,7 +50,7 @@ setupOf io p length pages = record {
 -- pages are erased from the address on, and nothing is accepted yet
 abbrev pub fresh : Setup → Progress
 fresh su = record {
-  stage = pick (su .dfuse) Erasing Writing;
+  stage = pick (su .dfuse) Stage.Erasing Stage.Writing;
   erased = pick (su .dfuse) (su .address) 0;
   page = 0;
   accepted = 0;
@@ -79,29 +75,29 @@ manyb dfuse length size = pick dfuse (ltb maxBlocks (blockCount length size)) fa
 
 -- budget 0 is refused; the first GETSTATUS spends 1
 abbrev pub starting : Setup → ℕ → Started
-starting su zero = Refused BudgetSpent
-starting su (suc l) = Begun (mk su (fresh su) l First)
+starting su zero = Started.Refused StartError.BudgetSpent
+starting su (suc l) = Started.Session (mk su (fresh su) l Phase.First)
 
 unfoldable pub begunOf : Setup → ℕ → Started
 begunOf su budget =
-    pick (nothingb su) (Begun (mk su (fresh su) budget (Finished Stays)))
-    (pick (beyondb su) (Refused NoSpaceLeft)
-    (pick (manyb (su .dfuse) (su .length) (su .size)) (Refused TooManyBlocks) (starting su budget)))
+    pick (nothingb su) (Started.Session (mk su (fresh su) budget (Phase.Finished End.Stays)))
+    (pick (beyondb su) (Started.Refused StartError.NoSpaceLeft)
+    (pick (manyb (su .dfuse) (su .length) (su .size)) (Started.Refused StartError.TooManyBlocks) (starting su budget)))
 
 -- in this order: too long, too many pages, finished at once, no space, too many blocks, budget
 unfoldable pub beginOf : DfuSansIo → DfuProtocol → ℕ → ℕ → ℕ → Started
 beginOf io p length pages budget =
-    pick (ltb 4294967295 length) (Refused OutOfCapabilities)
-    (pick (overb (dfuseb p) pages) (Refused TooManyPages) (begunOf (setupOf io p length pages) budget))
+    pick (ltb 4294967295 length) (Started.Refused StartError.OutOfCapabilities)
+    (pick (overb (dfuseb p) pages) (Started.Refused StartError.TooManyPages) (begunOf (setupOf io p length pages) budget))
 
 -- document 01's number and values for each answer
 abbrev pub saidStart : StartError → Said
-saidStart OutOfCapabilities = says 1 []
-saidStart TooManyPages = says 22 []
-saidStart NoSpaceLeft = says 5 []
-saidStart TooManyBlocks = says 29 []
-saidStart BudgetSpent = says 23 []
+saidStart StartError.OutOfCapabilities = says 1 []
+saidStart StartError.TooManyPages = says 22 []
+saidStart StartError.NoSpaceLeft = says 5 []
+saidStart StartError.TooManyBlocks = says 29 []
+saidStart StartError.BudgetSpent = says 23 []
 
 abbrev pub saidStarted : Started → Said
-saidStarted (Begun s) = says 0 []
-saidStarted (Refused e) = saidStart e
+saidStarted (Started.Session s) = says 0 []
+saidStarted (Started.Refused e) = saidStart e

@@ -15,10 +15,9 @@ use Rattle.ground.proofs.Numbers.{bytes-drop}
 use Rattle.ground.proofs.Prefix.{starts}
 use Rattle.ground.proofs.Tests.{picked}
 use Rattle.papers.specs.Crc.{crcOf}
+use Rattle.papers.specs.Suffix.{Ids, four, opening, dwCRC, fileOf}
 use Rattle.suffix.specs.declared.Identities.{Identities}
 use Rattle.suffix.specs.declared.Suffix.{Suffix}
-use Rattle.suffix.specs.declared.Suffix.the-variants.{FileTooShort, NoSignature, WrongLength, WrongCrc, Read}
-use Rattle.papers.specs.Suffix.{Ids, four, opening, dwCRC, fileOf}
 use Rattle.suffix.specs.Suffix.{lastOf, identitiesOf, lastRead, suffixOf, firmwareOf}
 use Rattle.suffix.proofs.Tested.{read-long, part-is}
 
@@ -36,7 +35,7 @@ quad : (n : ℕ) → (((0 * 256 + n / 16777216) * 256 + n / 65536 % 256) * 256 +
 quad n = omega arith
 
 -- the last 16 bytes that the appendix lays out
-last-read : (i : Ids) (c : ℕ) (before : List ℕ) → crcOf before ≡ c → lastRead (opening i ++ four c) before ≡ Read (named i) c
+last-read : (i : Ids) (c : ℕ) (before : List ℕ) → crcOf before ≡ c → lastRead (opening i ++ four c) before ≡ Suffix.Read (named i) c
 unfolding codes prefix field littleEndian
 last-read i c before e =
     simp (pair (i .bcdDevice), pair (i .idProduct), pair (i .idVendor), pair (i .bcdDFU), quad c, eq-eqb c (crcOf before) (sym e))
@@ -56,10 +55,10 @@ module _ (fw : List ℕ) (i : Ids) where
       ap (λ (n : ℕ). take n (fileOf fw i)) e ∙ take-append-add fw (opening i ++ four (dwCRC fw i)) 12
 
   -- WHAT THE APPENDIX LAYS OUT IS READ, with its identities and its CRC ..
-  pub reads-the-appendix : suffixOf (fileOf fw i) ≡ Read (named i) (dwCRC fw i)
+  pub reads-the-appendix : suffixOf (fileOf fw i) ≡ Suffix.Read (named i) (dwCRC fw i)
   unfolding suffixOf
   reads-the-appendix =
-      ap (λ (t : Bool). pick t FileTooShort (lastRead (lastOf (fileOf fw i)) (take (length (fileOf fw i) - 4) (fileOf fw i))))
+      ap (λ (t : Bool). pick t Suffix.FileTooShort (lastRead (lastOf (fileOf fw i)) (take (length (fileOf fw i) - 4) (fileOf fw i))))
       (le-ltb (length (fileOf fw i)) 16 (omega (arith, long)))
       ∙ ap₂ lastRead last before
       ∙ last-read i (dwCRC fw i) (fw ++ opening i) refl
@@ -146,11 +145,11 @@ of-itself t n h s l =
 
 -- what the tests have found where the last sixteen bytes t, after the bytes b, were read
 abbrev Found : List ℕ → List ℕ → Suffix → Type 0
-Found t b (Read j c) = (take 3 (drop 8 t) ≡ UFD) × (getD t 11 0 ≡ 16) × (j ≡ identitiesOf t) × (c ≡ field 12 4 t) × (field 12 4 t ≡ crcOf b)
-Found t b FileTooShort = Unit
-Found t b NoSignature = Unit
-Found t b WrongLength = Unit
-Found t b WrongCrc = Unit
+Found t b (Suffix.Read j c) = (take 3 (drop 8 t) ≡ UFD) × (getD t 11 0 ≡ 16) × (j ≡ identitiesOf t) × (c ≡ field 12 4 t) × (field 12 4 t ≡ crcOf b)
+Found t b Suffix.FileTooShort = Unit
+Found t b Suffix.NoSignature = Unit
+Found t b Suffix.WrongLength = Unit
+Found t b Suffix.WrongCrc = Unit
 
 found : (t b : List ℕ) → Found t b (lastRead t b)
 unfolding codes
@@ -162,15 +161,15 @@ found t b =
     (λ n. tt))
     (λ n. tt)
 
-module _ (f : List ℕ) {j : Identities} {c : ℕ} (e : suffixOf f ≡ Read j c) where
+module _ (f : List ℕ) {j : Identities} {c : ℕ} (e : suffixOf f ≡ Suffix.Read j c) where
   abbrev ended : List ℕ
   ended = take (length f - 4) f
 
-  tests : Found (lastOf f) ended (Read j c)
+  tests : Found (lastOf f) ended (Suffix.Read j c)
   unfolding suffixOf
   tests =
       subst (Found (lastOf f) ended)
-      (ap (λ (t : Bool). pick t FileTooShort (lastRead (lastOf f) ended)) (sym (le-ltb (length f) 16 (read-long f e))) ∙ e)
+      (ap (λ (t : Bool). pick t Suffix.FileTooShort (lastRead (lastOf f) ended)) (sym (le-ltb (length f) 16 (read-long f e))) ∙ e)
       (found (lastOf f) ended)
 
   -- the CRC that a file has is that of the bytes before it
@@ -178,7 +177,7 @@ module _ (f : List ℕ) {j : Identities} {c : ℕ} (e : suffixOf f ≡ Read j c)
   stored = tests .4
 
 -- AND NOTHING ELSE IS: a file that was read is the appendix's, of its firmware and its identities, in one way
-module _ (f : List ℕ) (h : Bytes f) {j : Identities} {c : ℕ} (e : suffixOf f ≡ Read j c) where
+module _ (f : List ℕ) (h : Bytes f) {j : Identities} {c : ℕ} (e : suffixOf f ≡ Suffix.Read j c) where
   itself : lastOf f ≡ opening (idsOf j) ++ four (field 12 4 (lastOf f))
   itself =
       of-itself (lastOf f) (omega (arith, length-drop (length f - 16) f, read-long f e)) (bytes-drop (length f - 16) f h) (tests f e .0) (tests f e .1)

@@ -12,8 +12,8 @@ use Rattle.ground.proofs.Tests.{lt-or-ge}
 use Rattle.papers.specs.Crc.{crcOf}
 use Rattle.crc32.proofs.Damage.{byte-seen}
 use Rattle.suffix.specs.declared.Identities.{Identities}
-use Rattle.suffix.specs.declared.Suffix.the-variants.{Read}
 use Rattle.suffix.specs.Suffix.{suffixOf}
+use Rattle.suffix.specs.declared.Suffix.{Suffix}
 use Rattle.suffix.proofs.Tested.{read-long}
 use Rattle.suffix.proofs.Appendix.{stored}
 
@@ -27,7 +27,7 @@ number-one (x ∷ xs) (y ∷ ys) n h k e =
     ap₂ (λ (z : ℕ) (zs : List ℕ). z ∷ zs) (omega (arith, h .0, k .0)) (number-one xs ys (omega arith) (h .1) (k .1) (omega (arith, h .0, k .0)))
 
 -- a read file's last four bytes are the CRC of those before them
-last-four : (f : List ℕ) {i : Identities} {c : ℕ} → suffixOf f ≡ Read i c → littleEndian (drop (length f - 4) f) ≡ crcOf (take (length f - 4) f)
+last-four : (f : List ℕ) {i : Identities} {c : ℕ} → suffixOf f ≡ Suffix.Read i c → littleEndian (drop (length f - 4) f) ≡ crcOf (take (length f - 4) f)
 unfolding field
 last-four f e =
     let h = read-long f e in
@@ -58,7 +58,7 @@ module _ (p q : List ℕ) (hp : Bytes p) (hq : Bytes q) where
     after : (x : ℕ) → drop (length (with x) - 4) (with x) ≡ drop m q
     after x = ap (λ (k : ℕ). drop k (with x)) (place x) ∙ drop-append-add p (x ∷ q) (suc m)
 
-    covered : (a b : ℕ) → a < 256 → b < 256 → {i j : Identities} {c d : ℕ} → suffixOf (with a) ≡ Read i c → suffixOf (with b) ≡ Read j d → a ≡ b
+    covered : (a b : ℕ) → a < 256 → b < 256 → {i j : Identities} {c d : ℕ} → suffixOf (with a) ≡ Suffix.Read i c → suffixOf (with b) ≡ Suffix.Read j d → a ≡ b
     covered a b h k e f =
         byte-seen 0xFFFFFFFF p (take m q) a b (omega arith) hp (bytes-take m q hq) h k
         (ap crcOf (sym (over a))
@@ -83,7 +83,7 @@ module _ (p q : List ℕ) (hp : Bytes p) (hq : Bytes q) where
     tail : ℕ → List ℕ
     tail x = drop from p ++ (x ∷ q)
 
-    number : (x : ℕ) → {i : Identities} {c : ℕ} → suffixOf (with x) ≡ Read i c → littleEndian (tail x) ≡ crcOf (take from p)
+    number : (x : ℕ) → {i : Identities} {c : ℕ} → suffixOf (with x) ≡ Suffix.Read i c → littleEndian (tail x) ≡ crcOf (take from p)
     unfolding tail
     number x e =
         ap littleEndian (sym (ap (λ (k : ℕ). drop k (with x)) (place-in x) ∙ drop-append-le from p (x ∷ q) inside))
@@ -102,12 +102,12 @@ module _ (p q : List ℕ) (hp : Bytes p) (hq : Bytes q) where
     unfolding tail
     at x = getD-append-seam (drop from p) x q 0
 
-    within : (a b : ℕ) → a < 256 → b < 256 → {i j : Identities} {c d : ℕ} → suffixOf (with a) ≡ Read i c → suffixOf (with b) ≡ Read j d → a ≡ b
+    within : (a b : ℕ) → a < 256 → b < 256 → {i j : Identities} {c d : ℕ} → suffixOf (with a) ≡ Suffix.Read i c → suffixOf (with b) ≡ Suffix.Read j d → a ≡ b
     within a b h k e f =
         let t = number-one (tail a) (tail b) (tail-long a ∙ sym (tail-long b)) (tail-bytes a h) (tail-bytes b k) (number a e ∙ sym (number b f)) in
         sym (at a) ∙ ap (λ (l : List ℕ). getD l (length (drop from p)) 0) t ∙ at b
 
   -- ONE DAMAGED BYTE IS SEEN, wherever it stands: files that differ in it alone and are both read don't differ
-  pub one-byte-is-seen : (a b : ℕ) → a < 256 → b < 256 → {i j : Identities} {c d : ℕ} → suffixOf (with a) ≡ Read i c → suffixOf (with b) ≡ Read j d → a ≡ b
+  pub one-byte-is-seen : (a b : ℕ) → a < 256 → b < 256 → {i j : Identities} {c d : ℕ} → suffixOf (with a) ≡ Suffix.Read i c → suffixOf (with b) ≡ Suffix.Read j d → a ≡ b
   one-byte-is-seen a b h k e f =
       ⊎-elim (λ l. within l a b h k e f) (λ g. let n : length q ≡ length q - 4 + 4 = omega arith in covered (length q - 4) n a b h k e f) (lt-or-ge (length q) 4)

@@ -14,10 +14,9 @@ use Rattle.ground.proofs.Tests.{lt-or-ge}
 use Rattle.papers.specs.Crc.{crcOf}
 use Rattle.suffix.specs.declared.Identities.{Identities}
 use Rattle.suffix.specs.declared.Suffix.{Suffix}
-use Rattle.suffix.specs.declared.Suffix.the-variants.{FileTooShort, NoSignature, WrongLength, WrongCrc, Read}
 use Rattle.suffix.specs.Suffix.{lastOf, identitiesOf, suffixOf, partBy, firmwareOf}
 
-pub too-short : (f : List ℕ) → length f < 16 → FileTooShort ≡ suffixOf f
+pub too-short : (f : List ℕ) → length f < 16 → Suffix.FileTooShort ≡ suffixOf f
 unfolding suffixOf
 too-short f h = simp (lt-ltb (length f) 16 h)
 
@@ -32,12 +31,12 @@ module _ (f : List ℕ) (h : 16 ≤ length f) where
   signed : (b : Bool) → prefix (85 ∷ 70 ∷ 68 ∷ []) (take (length taken - 8) (drop 8 taken)) ≡ b → prefix (85 ∷ 70 ∷ 68 ∷ []) (drop 8 (lastOf f)) ≡ b
   signed b s = ap (prefix (85 ∷ 70 ∷ 68 ∷ [])) (ap (drop 8) (sym last-is) ∙ sym (onwards 8 taken)) ∙ s
 
-  pub no-signature : prefix (85 ∷ 70 ∷ 68 ∷ []) (take (length taken - 8) (drop 8 taken)) ≡ false → NoSignature ≡ suffixOf f
+  pub no-signature : prefix (85 ∷ 70 ∷ 68 ∷ []) (take (length taken - 8) (drop 8 taken)) ≡ false → Suffix.NoSignature ≡ suffixOf f
   unfolding suffixOf codes
   no-signature s = simp (le-ltb (length f) 16 h, signed false s)
 
   module _ (s : prefix (85 ∷ 70 ∷ 68 ∷ []) (take (length taken - 8) (drop 8 taken)) ≡ true) where
-    pub wrong-length : (getD taken 11 0 ≡ 16 → ⊥) → WrongLength ≡ suffixOf f
+    pub wrong-length : (getD taken 11 0 ≡ 16 → ⊥) → Suffix.WrongLength ≡ suffixOf f
     unfolding suffixOf codes
     wrong-length n =
         simp (le-ltb (length f) 16 h, signed true s, ne-eqb (getD (lastOf f) 11 0) 16 (λ e. n (ap (λ (t : List ℕ). getD t 11 0) last-is ∙ e)))
@@ -46,7 +45,7 @@ module _ (f : List ℕ) (h : 16 ≤ length f) where
       sixteen : getD (lastOf f) 11 0 ≡ 16
       sixteen = ap (λ (t : List ℕ). getD t 11 0) (sym last-is) ∙ n
 
-      pub wrong-crc : (field 12 4 taken ≡ crcOf (take (length f - 4) f) → ⊥) → WrongCrc ≡ suffixOf f
+      pub wrong-crc : (field 12 4 taken ≡ crcOf (take (length f - 4) f) → ⊥) → Suffix.WrongCrc ≡ suffixOf f
       unfolding suffixOf codes
       wrong-crc c =
           simp (
@@ -56,10 +55,10 @@ module _ (f : List ℕ) (h : 16 ≤ length f) where
             ne-eqb (field 12 4 (lastOf f)) (crcOf (take (length f - 4) f)) (λ e. c (ap (field 12 4) last-is ∙ e)),
           )
 
-      pub all-read : field 12 4 taken ≡ crcOf (take (length f - 4) f) → Read (identitiesOf taken) (field 12 4 taken) ≡ suffixOf f
+      pub all-read : field 12 4 taken ≡ crcOf (take (length f - 4) f) → Suffix.Read (identitiesOf taken) (field 12 4 taken) ≡ suffixOf f
       unfolding suffixOf codes
       all-read c =
-          ap (λ (t : List ℕ). Read (identitiesOf t) (field 12 4 t)) last-is
+          ap (λ (t : List ℕ). Suffix.Read (identitiesOf t) (field 12 4 t)) last-is
           ∙ simp (
             le-ltb (length f) 16 h,
             signed true s,
@@ -68,7 +67,7 @@ module _ (f : List ℕ) (h : 16 ≤ length f) where
           )
 
 -- what was read has a suffix's length
-pub read-long : (f : List ℕ) {i : Identities} {c : ℕ} → suffixOf f ≡ Read i c → 16 ≤ length f
+pub read-long : (f : List ℕ) {i : Identities} {c : ℕ} → suffixOf f ≡ Suffix.Read i c → 16 ≤ length f
 read-long f e = ⊎-elim (λ l. absurd (let x = too-short f l in let z : _≡_ {A = ℕ} 0 1 = cc in omega arith)) (λ g. g) (lt-or-ge (length f) 16)
 
 pub part-is : (f : List ℕ) {r : Suffix} → suffixOf f ≡ r → partBy r f ≡ firmwareOf f

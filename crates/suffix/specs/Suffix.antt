@@ -10,7 +10,6 @@ use Rattle.ground.specs.Bytes.{field, prefix}
 use Rattle.papers.specs.Crc.{crcOf}
 use Rattle.suffix.specs.declared.Identities.{Identities}
 use Rattle.suffix.specs.declared.Suffix.{Suffix}
-use Rattle.suffix.specs.declared.Suffix.the-variants.{FileTooShort, NoSignature, WrongLength, WrongCrc, Read}
 
 -- the last 16 bytes
 abbrev pub lastOf : List ℕ → List ℕ
@@ -30,29 +29,29 @@ abbrev pub lastRead : List ℕ → List ℕ → Suffix
 lastRead s before =
     pick (prefix (codes "UFD") (drop 8 s))
     (pick (eqb (getD s 11 0) 16)
-    (pick (eqb (field 12 4 s) (crcOf before)) (Read (identitiesOf s) (field 12 4 s)) WrongCrc)
-    WrongLength)
-    NoSignature
+    (pick (eqb (field 12 4 s) (crcOf before)) (Suffix.Read (identitiesOf s) (field 12 4 s)) Suffix.WrongCrc)
+    Suffix.WrongLength)
+    Suffix.NoSignature
 
 -- under 16 bytes is 40, first
 unfoldable pub suffixOf : List ℕ → Suffix
-suffixOf file = pick (ltb (length file) 16) FileTooShort (lastRead (lastOf file) (take (length file - 4) file))
+suffixOf file = pick (ltb (length file) 16) Suffix.FileTooShort (lastRead (lastOf file) (take (length file - 4) file))
 
 -- the firmware part: all before the suffix, and nothing of a file that is refused
 abbrev pub partBy : Suffix → List ℕ → List ℕ
-partBy (Read identities crc) file = take (length file - 16) file
-partBy FileTooShort file = []
-partBy NoSignature file = []
-partBy WrongLength file = []
-partBy WrongCrc file = []
+partBy (Suffix.Read identities crc) file = take (length file - 16) file
+partBy Suffix.FileTooShort file = []
+partBy Suffix.NoSignature file = []
+partBy Suffix.WrongLength file = []
+partBy Suffix.WrongCrc file = []
 
 unfoldable pub firmwareOf : List ℕ → List ℕ
 firmwareOf file = partBy (suffixOf file) file
 
 -- document 02's number and values for each answer
 abbrev pub saidOf : Suffix → Said
-saidOf FileTooShort = says 40 []
-saidOf NoSignature = says 41 []
-saidOf WrongLength = says 42 []
-saidOf WrongCrc = says 43 []
-saidOf (Read i crc) = says 0 (i .device ∷ i .product ∷ i .vendor ∷ i .«dfu_version» ∷ crc ∷ [])
+saidOf Suffix.FileTooShort = says 40 []
+saidOf Suffix.NoSignature = says 41 []
+saidOf Suffix.WrongLength = says 42 []
+saidOf Suffix.WrongCrc = says 43 []
+saidOf (Suffix.Read i crc) = says 0 (i .device ∷ i .product ∷ i .vendor ∷ i .«dfu_version» ∷ crc ∷ [])

@@ -6,13 +6,10 @@ use lib.Dec.{eqb}
 use Rattle.ground.specs.Pick.{pick}
 use Rattle.ground.specs.Said.{Said, says}
 use Rattle.get_status.specs.Names.{stateByte, statusByte}
-use Rattle.get_status.specs.declared.State.the-variants.{DfuIdle, DfuDnbusy, DfuDnloadIdle, DfuManifest}
+use Rattle.get_status.specs.declared.State.{State}
 use Rattle.wire.specs.declared.Command.{Command}
-use Rattle.wire.specs.declared.Command.the-variants.{Erase, SetAddress, Block, Empty}
 use Rattle.work.specs.declared.Wait.{Wait}
-use Rattle.work.specs.declared.Wait.the-variants.{Pause}
 use Rattle.work.specs.declared.Error.{Error}
-use Rattle.work.specs.declared.Error.the-variants.{InvalidState, EraseLimitReached, NoSpaceLeft, ResponseTooShort, BudgetSpent, NotAwaited, NotAsAtStart, Failed, StatusError, WrongCount}
 use Rattle.work.specs.declared.Setup.{Setup}
 use Rattle.work.specs.declared.Progress.{Progress}
 use Rattle.work.specs.declared.Todo.{Todo}
@@ -36,6 +33,7 @@ numberAt su place = (pick (su .dfuse) 2 0 + blockCount place (su .size)) % 65536
 abbrev pub blockLength : Setup → ℕ → ℕ
 blockLength su place = min (su .size) (su .length - place)
 
+-- another stage; nothing else moves
 abbrev pub staged : Stage → Progress → Progress
 staged st pr = record { stage = st; erased = pr .erased; page = pr .page; accepted = pr .accepted }
 
@@ -50,34 +48,34 @@ pub record Work : Type 0 where
 
 -- after a command that was taken with k bytes; erase, address or block: wait, 0 ms first; busy 4, target 5; after the empty block busy 7, target 2 if tolerant, else 7
 abbrev pub waitAfter : Setup → Command → ℕ → Wait
-waitAfter su (Erase a) k = Pause DfuDnbusy DfuDnloadIdle 0
-waitAfter su (SetAddress a) k = Pause DfuDnbusy DfuDnloadIdle 0
-waitAfter su (Block n f m) k = Pause DfuDnbusy DfuDnloadIdle 0
-waitAfter su (Empty n) k = Pause DfuManifest (pick (su .tolerant) DfuIdle DfuManifest) 0
+waitAfter su (Command.Erase a) k = Wait.Pause State.DfuDnbusy State.DfuDnloadIdle 0
+waitAfter su (Command.SetAddress a) k = Wait.Pause State.DfuDnbusy State.DfuDnloadIdle 0
+waitAfter su (Command.Block n f m) k = Wait.Pause State.DfuDnbusy State.DfuDnloadIdle 0
+waitAfter su (Command.Empty n) k = Wait.Pause State.DfuManifest (pick (su .tolerant) State.DfuIdle State.DfuManifest) 0
 
 -- the bytes that a command has to be taken with: a block's own
 abbrev pub wholeOf : Command → ℕ
-wholeOf (Erase a) = 0
-wholeOf (SetAddress a) = 0
-wholeOf (Block n f m) = m
-wholeOf (Empty n) = 0
+wholeOf (Command.Erase a) = 0
+wholeOf (Command.SetAddress a) = 0
+wholeOf (Command.Block n f m) = m
+wholeOf (Command.Empty n) = 0
 
 -- a block's count is its length; counts told for erase, address and the empty block are ignored
 abbrev pub takenb : Command → ℕ → Bool
-takenb (Erase a) n = true
-takenb (SetAddress a) n = true
-takenb (Block b f m) n = eqb n m
-takenb (Empty b) n = true
+takenb (Command.Erase a) n = true
+takenb (Command.SetAddress a) n = true
+takenb (Command.Block b f m) n = eqb n m
+takenb (Command.Empty b) n = true
 
 -- document 01's number and values for each answer
 abbrev pub saidError : Error → Said
-saidError (InvalidState got expected) = says 2 (stateByte got ∷ stateByte expected ∷ [])
-saidError EraseLimitReached = says 4 []
-saidError NoSpaceLeft = says 5 []
-saidError (ResponseTooShort got) = says 6 (got ∷ 6 ∷ [])
-saidError BudgetSpent = says 23 []
-saidError NotAwaited = says 24 []
-saidError NotAsAtStart = says 25 []
-saidError Failed = says 26 []
-saidError (StatusError status) = says 27 (statusByte status ∷ [])
-saidError (WrongCount n m) = says 28 (n ∷ m ∷ [])
+saidError (Error.InvalidState got expected) = says 2 (stateByte got ∷ stateByte expected ∷ [])
+saidError Error.EraseLimitReached = says 4 []
+saidError Error.NoSpaceLeft = says 5 []
+saidError (Error.ResponseTooShort got) = says 6 (got ∷ 6 ∷ [])
+saidError Error.BudgetSpent = says 23 []
+saidError Error.NotAwaited = says 24 []
+saidError Error.NotAsAtStart = says 25 []
+saidError Error.Failed = says 26 []
+saidError (Error.StatusError status) = says 27 (statusByte status ∷ [])
+saidError (Error.WrongCount n m) = says 28 (n ∷ m ∷ [])

@@ -2,9 +2,9 @@
 use Prim.Native.Nat.{ℕ}
 use mathlib.Core.Path.{ap, _∙_}
 use borrow.Author.Needs.{needs}
+use Rattle.machine.specs.declared.Phase.{Phase}
 use Rattle.session.specs.Told.{count, waited, wasReset}
 use Rattle.session.specs.Calls.{callOf}
-use Rattle.machine.specs.declared.Phase.the-variants.{First, Clear, Second, Waiting, Resetting}
 use Rattle.at_once.proofs.Answers.{at-phase, shared}
 use Rattle.at_once.proofs.told.Statement.{statement}
 use Rattle.at_once.proofs.told.Tie as tie
@@ -78,7 +78,7 @@ same-length c = search needs
 returns : tie.Need-returns
 returns c =
     let a = c .before .before .before .before .before .before .before .before .before .args in
-    c .before .before .shown .ensures ∙ at-phase (a .firmware .now) (a .pages .now) (a .command .now) (a .session) First (c .before .before .before .before .enum-told .given .1)
+    c .before .before .shown .ensures ∙ at-phase (a .firmware .now) (a .pages .now) (a .command .now) (a .session) Phase.First (c .before .before .before .before .enum-told .given .1)
 
 same-length-2 : tie.Need-same-length-2
 same-length-2 c = search needs
@@ -86,7 +86,7 @@ same-length-2 c = search needs
 returns-2 : tie.Need-returns-2
 returns-2 c =
     let a = c .before .before .before .before .before .before .before .args in
-    shared (a .firmware .now) (a .pages .now) (a .command .now) (a .session) (count 0) _ (c .told-count .ensures) tt ∙ at-phase (a .firmware .now) (a .pages .now) (a .command .now) (a .session) Clear (c .before .before .enum-told2 .given .1)
+    shared (a .firmware .now) (a .pages .now) (a .command .now) (a .session) (count 0) _ (c .told-count .ensures) tt ∙ at-phase (a .firmware .now) (a .pages .now) (a .command .now) (a .session) Phase.Clear (c .before .before .enum-told2 .given .1)
 
 same-length-3 : tie.Need-same-length-3
 same-length-3 c = search needs
@@ -94,7 +94,7 @@ same-length-3 c = search needs
 returns-3 : tie.Need-returns-3
 returns-3 c =
     let a = c .before .before .before .before .before .before .before .before .before .args in
-    c .before .before .shown2 .ensures ∙ at-phase (a .firmware .now) (a .pages .now) (a .command .now) (a .session) Second (c .before .before .before .before .enum-told3 .given .1)
+    c .before .before .shown2 .ensures ∙ at-phase (a .firmware .now) (a .pages .now) (a .command .now) (a .session) Phase.Second (c .before .before .before .before .enum-told3 .given .1)
 
 same-length-4 : tie.Need-same-length-4
 same-length-4 c = search needs
@@ -113,7 +113,7 @@ same-length-5 c = search needs
 returns-5 : tie.Need-returns-5
 returns-5 c =
     let a = c .before .before .before .before .before .before .before .before .before .before .args in
-    shared (a .firmware .now) (a .pages .now) (a .command .now) (a .session) waited _ (c .told-wait .ensures) tt ∙ at-phase (a .firmware .now) (a .pages .now) (a .command .now) (a .session) _ (c .before .before .before .before .before .phase2 .given .1 ∙ ap Waiting (c .before .before .enum-told4 .given .1))
+    shared (a .firmware .now) (a .pages .now) (a .command .now) (a .session) waited _ (c .told-wait .ensures) tt ∙ at-phase (a .firmware .now) (a .pages .now) (a .command .now) (a .session) _ (c .before .before .before .before .before .phase2 .given .1 ∙ ap Phase.Waiting (c .before .before .enum-told4 .given .1))
 
 same-length-6 : tie.Need-same-length-6
 same-length-6 c = search needs
@@ -121,7 +121,7 @@ same-length-6 c = search needs
 returns-6 : tie.Need-returns-6
 returns-6 c =
     let a = c .before .before .before .before .before .before .before .before .before .before .before .before .before .args in
-    c .before .before .shown3 .ensures ∙ at-phase (a .firmware .now) (a .pages .now) (a .command .now) (a .session) _ (c .before .before .before .before .before .before .before .before .phase2 .given .1 ∙ ap Waiting (c .before .before .before .before .before .wait .given .1))
+    c .before .before .shown3 .ensures ∙ at-phase (a .firmware .now) (a .pages .now) (a .command .now) (a .session) _ (c .before .before .before .before .before .before .before .before .phase2 .given .1 ∙ ap Phase.Waiting (c .before .before .before .before .before .wait .given .1))
 
 same-length-7 : tie.Need-same-length-7
 same-length-7 c = search needs
@@ -129,7 +129,7 @@ same-length-7 c = search needs
 returns-7 : tie.Need-returns-7
 returns-7 c =
     let a = c .before .before .before .before .before .before .before .args in
-    shared (a .firmware .now) (a .pages .now) (a .command .now) (a .session) wasReset _ (c .told-reset .ensures) tt ∙ at-phase (a .firmware .now) (a .pages .now) (a .command .now) (a .session) Resetting (c .before .before .enum-told5 .given .1)
+    shared (a .firmware .now) (a .pages .now) (a .command .now) (a .session) wasReset _ (c .told-reset .ensures) tt ∙ at-phase (a .firmware .now) (a .pages .now) (a .command .now) (a .session) Phase.Resetting (c .before .before .enum-told5 .given .1)
 
 same-length-8 : tie.Need-same-length-8
 same-length-8 c = search needs

@@ -5,8 +5,8 @@ use native.Mathlib.Omega.{arith}
 use borrow.Author.Needs.{needs}
 use lib.ListN.{length}
 use Rattle.memory_layout.specs.Layout.{maxPages}
-use Rattle.download.proofs.Covering.{bounded}
 use Rattle.work.proofs.Fills.{blockCount-bound}
+use Rattle.download.proofs.Covering.{bounded}
 use Rattle.plan.proofs.Agree.{pages-agree, blocks-agree}
 use Rattle.budget.proofs.requests.Statement.{statement}
 use Rattle.budget.proofs.requests.Tie as tie

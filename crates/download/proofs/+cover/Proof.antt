@@ -3,11 +3,11 @@ use mathlib.Core.Path.{_≡_, ap, _∙_}
 use native.Mathlib.Omega.{arith}
 use borrow.Author.Needs.{needs}
 use lib.ListN.{length, take, drop}
-use Rattle.download.specs.Download.{covering}
-use Rattle.download.proofs.Covering.{none-left, no-page, step, bounded, shorter}
 use Prim.Native.Nat.{ℕ, _+_, _-_, _<_}
 use borrow.Fn.Kinds.{In}
 use borrow.Fn.PlainCycle.{Measures, is, falls, and}
+use Rattle.download.specs.Download.{covering}
+use Rattle.download.proofs.Covering.{none-left, no-page, step, bounded, shorter}
 use Rattle.download.proofs.cover.Reads as cover
 use Rattle.download.proofs.cover.Kinds as cover-kinds
 use Rattle.download.proofs.+cover.Lts-cover as cover-lts

@@ -1,8 +1,8 @@
 -- `erase` meets its contract: the tests are those of the definition.
 use borrow.Author.Tests.{lt-ltb, le-ltb}
 use native.Mathlib.Omega.{arith}
-use Rattle.download.specs.Download.{eraseNext}
 use borrow.Author.Needs.{needs}
+use Rattle.download.specs.Download.{eraseNext}
 use Rattle.download.proofs.erase.Statement.{statement}
 use Rattle.download.proofs.erase.Tie as tie
 

@@ -1,8 +1,8 @@
 -- `next` meets its contract: an arm for each stage.
 use mathlib.Core.Path.{ap, _∙_}
-use Rattle.work.specs.declared.Todo.the-variants.{End as Ends}
-use Rattle.download.proofs.Wishes.{next-at}
 use borrow.Author.Needs.{needs}
+use Rattle.work.specs.declared.Todo.{Todo}
+use Rattle.download.proofs.Wishes.{next-at}
 use Rattle.download.proofs.next.Statement.{statement}
 use Rattle.download.proofs.next.Tie as tie
 
@@ -32,7 +32,7 @@ returns-2 c = c .write .ensures ∙ next-at (c .before .before .before .before .
 
 returns-3 : tie.Need-returns-3
 returns-3 c =
-    ap Ends (c .end-for .ensures)
+    ap Todo.End (c .end-for .ensures)
     ∙ next-at (c .before .before .before .before .args .pages .now) (c .before .before .before .before .args .setup) _ _ (c .before .enum-told3 .given .1)
 
 pub next-spec : {M : Type 1} → statement M

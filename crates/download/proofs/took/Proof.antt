@@ -1,6 +1,6 @@
 -- `took` meets its contract: an arm for each command.
-use Rattle.download.specs.Download.{tookOf}
 use borrow.Author.Needs.{needs}
+use Rattle.download.specs.Download.{tookOf}
 use Rattle.download.proofs.took.Statement.{statement}
 use Rattle.download.proofs.took.Tie as tie
 

@@ -1,7 +1,7 @@
 -- `write` meets its contract: the test is that of the definition.
 use borrow.Author.Tests.{lt-ltb, le-ltb}
-use Rattle.download.specs.Download.{writeNext}
 use borrow.Author.Needs.{needs}
+use Rattle.download.specs.Download.{writeNext}
 use Rattle.download.proofs.write.Statement.{statement}
 use Rattle.download.proofs.write.Tie as tie
 

@@ -1,10 +1,10 @@
 -- `number` meets its contract: what was read so far is the number of the bytes from i on.
-use Rattle.ground.proofs.Numbers.{bytes-of, room, top, down}
-use Rattle.ground.specs.Bytes.{littleEndian}
 use lib.ListN.{length, take, drop}
 use native.Mathlib.Omega.{arith}
 use mathlib.Core.Path.{_≡_, sym, ap, _∙_}
 use Prim.Native.Nat.{ℕ, _≤_, _-_}
+use Rattle.ground.specs.Bytes.{littleEndian}
+use Rattle.ground.proofs.Numbers.{bytes-of, room, top, down}
 use Rattle.ground.proofs.number.Statement.{statement}
 use Rattle.ground.proofs.number.Tie as tie
 

@@ -1,10 +1,10 @@
 -- `starts_with` meets its contract: what is left to compare decides as the whole does.
-use Rattle.ground.proofs.Prefix.{short, differs, same, at-end}
-use Rattle.ground.specs.Bytes.{prefix}
 use lib.ListN.{length, drop}
 use native.Mathlib.Omega.{arith}
 use mathlib.Core.Path.{_≡_, refl, sym, _∙_}
 use Prim.Native.Nat.{_≤_, _-_}
+use Rattle.ground.specs.Bytes.{prefix}
+use Rattle.ground.proofs.Prefix.{short, differs, same, at-end}
 use Rattle.ground.proofs.starts_with.Statement.{statement}
 use Rattle.ground.proofs.starts_with.Tie as tie
 

@@ -1,10 +1,10 @@
 -- `find` meets its contract: from i on the end is the same.
-use Rattle.memory_layout.proofs.Scan.{stop-end, stop-at, pass}
-use Rattle.memory_layout.specs.Layout.{endOf}
 use lib.ListN.{length}
 use native.Mathlib.Omega.{arith}
 use mathlib.Core.Path.{_≡_, refl, sym, _∙_}
 use Prim.Native.Nat.{_≤_, _-_}
+use Rattle.memory_layout.specs.Layout.{endOf}
+use Rattle.memory_layout.proofs.Scan.{stop-end, stop-at, pass}
 use Rattle.memory_layout.proofs.find.Statement.{statement}
 use Rattle.memory_layout.proofs.find.Tie as tie
 

@@ -6,7 +6,7 @@ use mathlib.Core.List.{List, _++_}
 use native.Mathlib.Omega.{arith}
 use lib.ListN.{length, take, drop, length-take, length-drop}
 use Rattle.memory_layout.specs.Layout.{endOf, split, pieces, maxPages, sizes}
-use Rattle.memory_layout.specs.declared.MemoryLayout.the-variants.{Pages}
+use Rattle.memory_layout.specs.declared.MemoryLayout.{MemoryLayout}
 use Rattle.memory_layout.proofs.Scan.{end-from, end-in}
 use Rattle.memory_layout.proofs.Turns.{here}
 use Rattle.memory_layout.proofs.Accepted.{star, no-fault, space, ends, goes-on, sizes-last, sizes-more}
@@ -19,7 +19,7 @@ Inv-loop text store₀ n a₀ k₀ store a k =
     (length store ≡ length store₀)
     × (a ≤ length text)
     × (k ≤ min (length store₀) maxPages)
-    × (pieces (min (length store₀) maxPages) (split (drop a text)) a k ≡ Pages n)
+    × (pieces (min (length store₀) maxPages) (split (drop a text)) a k ≡ MemoryLayout.Pages n)
     × (take k store ++ sizes (split (drop a text)) a ≡ sizes (split text) 0)
     × (drop k store ≡ drop k store₀)
 

@@ -1,10 +1,10 @@
 -- `digits` meets its contract: what is left to read goes on from the value so far as the whole does from 0.
-use Rattle.number.proofs.Reading.{at-end, bad-digit, bad-value, go-on, room}
-use Rattle.number.specs.Number.{readOn}
 use lib.ListN.{length, drop}
 use native.Mathlib.Omega.{arith}
 use mathlib.Core.Path.{_≡_, refl, sym, _∙_}
 use Prim.Native.Nat.{_<_, _-_}
+use Rattle.number.specs.Number.{readOn}
+use Rattle.number.proofs.Reading.{at-end, bad-digit, bad-value, go-on, room}
 use Rattle.number.proofs.digits.Statement.{statement}
 use Rattle.number.proofs.digits.Tie as tie
 

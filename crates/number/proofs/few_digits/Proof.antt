@@ -1,11 +1,11 @@
 -- `few_digits` meets its contract: what is left to read goes on from the value so far, which has as many digits as were read.
 use borrow.Author.Needs.{needs}
-use Rattle.number.proofs.Decimals.{late, over, same, no-digit, next, ended, none, more, room}
-use Rattle.number.specs.Number.{readOn}
 use lib.ListN.{length, drop}
 use native.Mathlib.Omega.{arith}
 use mathlib.Core.Path.{_≡_, sym, _∙_}
 use Prim.Native.Nat.{_<_, _≤_, _-_, _^_}
+use Rattle.number.specs.Number.{readOn}
+use Rattle.number.proofs.Decimals.{late, over, same, no-digit, next, ended, none, more, room}
 use Rattle.number.proofs.few_digits.Statement.{statement}
 use Rattle.number.proofs.few_digits.Tie as tie
 

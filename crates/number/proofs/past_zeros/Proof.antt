@@ -1,10 +1,10 @@
 -- `past_zeros` meets its contract: a zero before the digits adds nothing, and past the end there is none.
-use Rattle.number.proofs.Decimals.{leading}
-use Rattle.number.specs.Number.{readOn}
 use lib.ListN.{length, drop, List·getD-eq-default}
 use native.Mathlib.Omega.{arith}
 use mathlib.Core.Path.{_≡_, refl, sym, _∙_}
 use Prim.Native.Nat.{_≤_, _-_}
+use Rattle.number.specs.Number.{readOn}
+use Rattle.number.proofs.Decimals.{leading}
 use Rattle.number.proofs.past_zeros.Statement.{statement}
 use Rattle.number.proofs.past_zeros.Tie as tie
 

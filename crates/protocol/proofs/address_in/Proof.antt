@@ -3,11 +3,11 @@ use mathlib.Core.Path.{sym, ap, _∙_}
 use mathlib.Core.List.{[], _∷_}
 use native.Mathlib.Omega.{arith}
 use borrow.Author.Tests.{not-true, not-false}
+use borrow.Author.Needs.{needs}
 use Rattle.ground.proofs.Prefix.{long}
 use Rattle.protocol.specs.Interface.{valueOf}
 use Rattle.protocol.proofs.Cuts.{at}
 use Rattle.protocol.proofs.Strings.{after, no-address, bad-start, valued}
-use borrow.Author.Needs.{needs}
 use Rattle.protocol.proofs.address_in.Statement.{statement}
 use Rattle.protocol.proofs.address_in.Tie as tie
 

@@ -3,15 +3,14 @@ use mathlib.Core.Path.{_≡_, sym, ap, _∙_}
 use native.Mathlib.Omega.{arith}
 use lib.ListN.{length, take}
 use lib.Seq.{length-take-le}
+use borrow.Author.Needs.{needs}
 use Rattle.memory_layout.specs.Layout.{checked}
 use Rattle.memory_layout.specs.declared.MemoryLayout.{MemoryLayout}
 use Rattle.protocol.specs.declared.Address.{Address}
-use Rattle.protocol.specs.declared.Address.the-variants.{At, NoSlash, Bad}
 use Rattle.protocol.specs.declared.Interface.{Interface}
 use Rattle.protocol.specs.Interface.{rsplit, addressOf, answered, done, leaves}
 use Rattle.protocol.proofs.Cuts.{at}
 use Rattle.protocol.proofs.Strings.{after, no-layout, with-layout, stored, kept, refuses, refuses-bad}
-use borrow.Author.Needs.{needs}
 use Rattle.protocol.proofs.dfuse.Statement.{statement}
 use Rattle.protocol.proofs.dfuse.Tie as tie
 
@@ -84,7 +83,7 @@ returns-2 c =
     let store = c .before .before .before .before .before .before .before .before .before .before .before .before .before .before .before .before .before .before .before .args .store .now in
     let i = c .before .before .before .before .before .before .before .before .before .before .before .before .before .before .slash .given .0 .0 in
     let n = c .before .before .before .before .before .before .before .before .address .given .0 .0 in
-    let a : addressOf (rsplit (take i s)) ≡ At n = sym (c .before .before .before .before .before .before .before .before .before .before .before .address-in .ensures) ∙ c .before .before .before .before .before .before .before .before .address .given .1 in
+    let a : addressOf (rsplit (take i s)) ≡ Address.At n = sym (c .before .before .before .before .before .before .before .before .before .before .before .address-in .ensures) ∙ c .before .before .before .before .before .before .before .before .address .given .1 in
     stored (c .before .before .before .before .before .try-from .result) (after s i) store _ (c .before .before .before .before .before .try-from .ensures) _ n (c .before .read .given .1)
     ∙ ap (λ (x : Address). leaves (answered (checked (length store) (after s i)) x) (after s i) store) (sym a)
     ∙ sym (with-layout (c .before .before .before .before .before .before .before .before .before .before .before .before .before .before .before .before .before .before .before .args .s .now) (c .before .before .before .before .before .before .before .before .before .before .before .before .before .before .before .before .before .before .before .args .store .now) _ (sym (c .before .before .before .before .before .before .before .before .before .before .before .before .before .before .before .before .last-slash .ensures) ∙ c .before .before .before .before .before .before .before .before .before .before .before .before .before .before .slash .given .1))
@@ -98,7 +97,7 @@ returns-3 c =
     let store = c .before .before .before .before .before .before .before .before .before .before .before .before .before .before .before .before .before .before .before .args .store .now in
     let i = c .before .before .before .before .before .before .before .before .before .before .before .before .before .before .slash .given .0 .0 in
     let n = c .before .before .before .before .before .before .before .before .address .given .0 .0 in
-    let a : addressOf (rsplit (take i s)) ≡ At n = sym (c .before .before .before .before .before .before .before .before .before .before .before .address-in .ensures) ∙ c .before .before .before .before .before .before .before .before .address .given .1 in
+    let a : addressOf (rsplit (take i s)) ≡ Address.At n = sym (c .before .before .before .before .before .before .before .before .before .before .before .address-in .ensures) ∙ c .before .before .before .before .before .before .before .before .address .given .1 in
     kept (c .before .before .before .before .before .try-from .result) (after s i) store _ (c .before .before .before .before .before .try-from .ensures) _ n (c .before .read2 .given .1)
     ∙ ap (λ (x : Address). leaves (answered (checked (length store) (after s i)) x) (after s i) store) (sym a)
     ∙ sym (with-layout (c .before .before .before .before .before .before .before .before .before .before .before .before .before .before .before .before .before .before .before .args .s .now) (c .before .before .before .before .before .before .before .before .before .before .before .before .before .before .before .before .before .before .before .args .store .now) _ (sym (c .before .before .before .before .before .before .before .before .before .before .before .before .before .before .before .before .last-slash .ensures) ∙ c .before .before .before .before .before .before .before .before .before .before .before .before .before .before .slash .given .1))
@@ -108,9 +107,9 @@ returns-4 c =
     let s = c .before .before .before .before .before .before .before .before .before .before .before .before .before .args .s .now in
     let store = c .before .before .before .before .before .before .before .before .before .before .before .before .before .args .store .now in
     let i = c .before .before .before .before .before .before .before .before .slash .given .0 .0 in
-    let a : addressOf (rsplit (take i s)) ≡ NoSlash = sym (c .before .before .before .before .before .address-in .ensures) ∙ c .before .before .enum-told2 .given .1 in
+    let a : addressOf (rsplit (take i s)) ≡ Address.NoSlash = sym (c .before .before .before .before .before .address-in .ensures) ∙ c .before .before .enum-told2 .given .1 in
     let l : c .before .check .result ≡ checked (length store) (after s i) = c .before .check .ensures in
-    ap (λ (r : Interface). done r store) (c .refused-by .ensures ∙ ap (λ (x : MemoryLayout). answered x NoSlash) l)
+    ap (λ (r : Interface). done r store) (c .refused-by .ensures ∙ ap (λ (x : MemoryLayout). answered x Address.NoSlash) l)
     ∙ refuses (checked (length store) (after s i)) (after s i) store
     ∙ ap (λ (x : Address). leaves (answered (checked (length store) (after s i)) x) (after s i) store) (sym a)
     ∙ sym (with-layout (c .before .before .before .before .before .before .before .before .before .before .before .before .before .args .s .now) (c .before .before .before .before .before .before .before .before .before .before .before .before .before .args .store .now) _ (sym (c .before .before .before .before .before .before .before .before .before .before .last-slash .ensures) ∙ c .before .before .before .before .before .before .before .before .slash .given .1))
@@ -120,9 +119,9 @@ returns-5 c =
     let s = c .before .before .before .before .before .before .before .before .before .before .before .before .before .args .s .now in
     let store = c .before .before .before .before .before .before .before .before .before .before .before .before .before .args .store .now in
     let i = c .before .before .before .before .before .before .before .before .slash .given .0 .0 in
-    let a : addressOf (rsplit (take i s)) ≡ Bad = sym (c .before .before .before .before .before .address-in .ensures) ∙ c .before .before .enum-told3 .given .1 in
+    let a : addressOf (rsplit (take i s)) ≡ Address.Bad = sym (c .before .before .before .before .before .address-in .ensures) ∙ c .before .before .enum-told3 .given .1 in
     let l : c .before .check2 .result ≡ checked (length store) (after s i) = c .before .check2 .ensures in
-    ap (λ (r : Interface). done r store) (c .refused-by2 .ensures ∙ ap (λ (x : MemoryLayout). answered x Bad) l)
+    ap (λ (r : Interface). done r store) (c .refused-by2 .ensures ∙ ap (λ (x : MemoryLayout). answered x Address.Bad) l)
     ∙ refuses-bad (checked (length store) (after s i)) (after s i) store
     ∙ ap (λ (x : Address). leaves (answered (checked (length store) (after s i)) x) (after s i) store) (sym a)
     ∙ sym (with-layout (c .before .before .before .before .before .before .before .before .before .before .before .before .before .args .s .now) (c .before .before .before .before .before .before .before .before .before .before .before .before .before .args .store .now) _ (sym (c .before .before .before .before .before .before .before .before .before .before .last-slash .ensures) ∙ c .before .before .before .before .before .before .before .before .slash .given .1))

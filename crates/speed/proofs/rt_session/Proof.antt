@@ -1,8 +1,8 @@
 -- `rt_session` meets its contract: what was begun is run.
 use mathlib.Core.Path.{ap, sym, _∙_}
+use borrow.Author.Needs.{needs}
 use Rattle.start.specs.declared.Started.{Started}
 use Rattle.speed.specs.Speed.{runOf}
-use borrow.Author.Needs.{needs}
 use Rattle.speed.proofs.rt_session.Statement.{statement}
 use Rattle.speed.proofs.rt_session.Tie as tie
 

@@ -2,9 +2,9 @@
 use mathlib.Core.Path.{_≡_, refl, sym, _∙_}
 use Prim.Native.Nat.{_-_}
 use lib.ListN.{length}
+use borrow.Author.Needs.{needs}
 use Rattle.speed.specs.Speed.{ranOf}
 use Rattle.speed.proofs.Turns.{run-out, goes-on, ends}
-use borrow.Author.Needs.{needs}
 use Rattle.speed.proofs.run.Statement.{statement}
 use Rattle.speed.proofs.run.Tie as tie
 

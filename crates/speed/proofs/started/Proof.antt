@@ -1,10 +1,10 @@
 -- `started` meets its contract: it is the call of `download` for such a device.
 use mathlib.Core.Path.{ap, _∙_}
 use lib.ListN.{length}
-use Rattle.protocol.specs.declared.DfuProtocol.the-variants.{Dfuse}
+use borrow.Author.Needs.{needs}
+use Rattle.protocol.specs.declared.DfuProtocol.{DfuProtocol}
 use Rattle.start.specs.Start.{beginOf}
 use Rattle.start.specs.declared.DfuSansIo.{DfuSansIo}
-use borrow.Author.Needs.{needs}
 use Rattle.speed.proofs.started.Statement.{statement}
 use Rattle.speed.proofs.started.Tie as tie
 
@@ -17,7 +17,7 @@ download-requires c κs = search needs
 returns : tie.Need-returns
 returns c =
     let a = c .before .before .before .before .args in
-    c .download .ensures ∙ ap (λ (io : DfuSansIo). beginOf io (Dfuse (a .address)) (length (a .firmware .now)) (length (a .pages .now)) 18446744073709551615) (c .before .new .ensures)
+    c .download .ensures ∙ ap (λ (io : DfuSansIo). beginOf io (DfuProtocol.Dfuse (a .address)) (length (a .firmware .now)) (length (a .pages .now)) 18446744073709551615) (c .before .new .ensures)
 
 pub started-spec : {M : Type 1} → statement M
 started-spec = tie.close (tie.spec new-requires download-requires returns)

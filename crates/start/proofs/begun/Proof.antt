@@ -1,8 +1,8 @@
 -- `begun` meets its contract: the tests are those of the definition, in its order.
 use native.Mathlib.Omega.{arith}
+use borrow.Author.Needs.{needs}
 use Rattle.start.specs.Start.{begunOf}
 use Rattle.start.proofs.Paid.{unpaid, paid}
-use borrow.Author.Needs.{needs}
 use Rattle.start.proofs.begun.Statement.{statement}
 use Rattle.start.proofs.begun.Tie as tie
 

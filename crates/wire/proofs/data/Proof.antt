@@ -1,6 +1,6 @@
 -- `data` meets its contract: an arm for each request.
-use Rattle.wire.proofs.Lent.{empty-end}
 use borrow.Author.Needs.{needs}
+use Rattle.wire.proofs.Lent.{empty-end}
 use Rattle.wire.proofs.data.Statement.{statement}
 use Rattle.wire.proofs.data.Tie as tie
 

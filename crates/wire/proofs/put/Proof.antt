@@ -1,8 +1,8 @@
 -- `put` meets its contract: five stores are five bytes in front.
 use native.Mathlib.Omega.{arith}
 use lib.ListN.{length-set}
-use Rattle.wire.proofs.Lent.{five}
 use borrow.Author.Needs.{needs}
+use Rattle.wire.proofs.Lent.{five}
 use Rattle.wire.proofs.put.Statement.{statement}
 use Rattle.wire.proofs.put.Tie as tie
 

@@ -1,7 +1,7 @@
 -- `number_at` meets its contract: the blocks before the place are counted on from the first number.
 use native.Mathlib.Omega.{arith}
-use Rattle.work.proofs.Fills.{blockCount-bound}
 use borrow.Author.Needs.{needs}
+use Rattle.work.proofs.Fills.{blockCount-bound}
 use Rattle.work.proofs.number_at.Statement.{statement}
 use Rattle.work.proofs.number_at.Tie as tie
 

@@ -2,7 +2,7 @@
 use borrow.Author.Needs.{needs}
 use borrow.Author.Tests.{lt-ltb, le-ltb, eq-eqb, ne-eqb}
 use mathlib.Core.Path.{ap}
-use Rattle.functional_descriptor.specs.declared.Descriptor.the-variants.{Read}
+use Rattle.functional_descriptor.specs.declared.Descriptor.{Descriptor}
 use Rattle.functional_descriptor.proofs.FunctionalDescriptor.from_bytes.Statement.{statement}
 use Rattle.functional_descriptor.proofs.FunctionalDescriptor.from_bytes.Tie as tie
 
@@ -24,7 +24,7 @@ fields-requires c κs = search needs
 returns-4 : tie.Need-returns-4
 returns-4 c =
     simp (le-ltb _ _ (c .before .before .before .before .if1 .left), eq-eqb _ _ (c .before .before .if2 .left), le-ltb _ _ (c .before .if3 .left))
-    (ap Read (c .fields .ensures))
+    (ap Descriptor.Read (c .fields .ensures))
 
 pub from-bytes-spec : {M : Type 1} → statement M
 from-bytes-spec =

@@ -3,28 +3,27 @@ use mathlib.Core.Path.{_≡_, refl}
 use mathlib.Core.List.{[], _∷_}
 use types.Run.{OneOf, miss}
 use denote.Enum.Declared.{tagOf}
+use borrow.Author.Needs.{needs}
 use Rattle.get_status.specs.Names.{settled}
 use Rattle.get_status.specs.declared.State.{State}
-use Rattle.get_status.specs.declared.State.the-variants.{AppIdle, AppDetach, DfuIdle, DfuDnloadSync, DfuDnbusy, DfuDnloadIdle, DfuManifestSync, DfuManifest, DfuManifestWaitReset, DfuUploadIdle, DfuError, Other}
 use Rattle.get_status.proofs.State.{the-type}
-use borrow.Author.Needs.{needs}
 use Rattle.get_status.proofs.State.for_status.Statement.{statement}
 use Rattle.get_status.proofs.State.for_status.Tie as tie
 
 -- the two that are taken as another apart, a state is kept
 kept : (s : State) → OneOf (0 ∷ 1 ∷ 2 ∷ 4 ∷ 5 ∷ 7 ∷ 8 ∷ 9 ∷ 10 ∷ 11 ∷ []) (tagOf the-type s) → settled s ≡ s
-kept AppIdle k = refl
-kept AppDetach k = refl
-kept DfuIdle k = refl
-kept DfuDnloadSync k = absurd (miss (0 ∷ 1 ∷ 2 ∷ 4 ∷ 5 ∷ 7 ∷ 8 ∷ 9 ∷ 10 ∷ 11 ∷ []) 3 tt k)
-kept DfuDnbusy k = refl
-kept DfuDnloadIdle k = refl
-kept DfuManifestSync k = absurd (miss (0 ∷ 1 ∷ 2 ∷ 4 ∷ 5 ∷ 7 ∷ 8 ∷ 9 ∷ 10 ∷ 11 ∷ []) 6 tt k)
-kept DfuManifest k = refl
-kept DfuManifestWaitReset k = refl
-kept DfuUploadIdle k = refl
-kept DfuError k = refl
-kept (Other b) k = refl
+kept State.AppIdle k = refl
+kept State.AppDetach k = refl
+kept State.DfuIdle k = refl
+kept State.DfuDnloadSync k = absurd (miss (0 ∷ 1 ∷ 2 ∷ 4 ∷ 5 ∷ 7 ∷ 8 ∷ 9 ∷ 10 ∷ 11 ∷ []) 3 tt k)
+kept State.DfuDnbusy k = refl
+kept State.DfuDnloadIdle k = refl
+kept State.DfuManifestSync k = absurd (miss (0 ∷ 1 ∷ 2 ∷ 4 ∷ 5 ∷ 7 ∷ 8 ∷ 9 ∷ 10 ∷ 11 ∷ []) 6 tt k)
+kept State.DfuManifest k = refl
+kept State.DfuManifestWaitReset k = refl
+kept State.DfuUploadIdle k = refl
+kept State.DfuError k = refl
+kept (State.Other b) k = refl
 
 enum-told : tie.Need-enum-told
 enum-told c = search needs

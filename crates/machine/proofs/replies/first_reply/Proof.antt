@@ -1,7 +1,7 @@
 -- `first_reply` meets its contract: a reply that can't be read, the error state, or any other.
 use borrow.Author.Tests.{eq-eqb, ne-eqb}
-use Rattle.machine.specs.Machine.{onFirst}
 use borrow.Author.Needs.{needs}
+use Rattle.machine.specs.Machine.{onFirst}
 use Rattle.machine.proofs.replies.first_reply.Statement.{statement}
 use Rattle.machine.proofs.replies.first_reply.Tie as tie
 

@@ -1,7 +1,7 @@
 -- `second_reply` meets its contract: a reply that can't be read, idle, or any other state.
 use borrow.Author.Tests.{eq-eqb, ne-eqb}
-use Rattle.machine.specs.Machine.{onSecond}
 use borrow.Author.Needs.{needs}
+use Rattle.machine.specs.Machine.{onSecond}
 use Rattle.machine.proofs.replies.second_reply.Statement.{statement}
 use Rattle.machine.proofs.replies.second_reply.Tie as tie
 

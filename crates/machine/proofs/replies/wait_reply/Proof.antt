@@ -1,6 +1,6 @@
 -- `wait_reply` meets its contract: a reply that can't be read, or what the look led to.
-use Rattle.machine.specs.Machine.{onPoll}
 use borrow.Author.Needs.{needs}
+use Rattle.machine.specs.Machine.{onPoll}
 use Rattle.machine.proofs.replies.wait_reply.Statement.{statement}
 use Rattle.machine.proofs.replies.wait_reply.Tie as tie
 

@@ -1,8 +1,8 @@
 -- `issued` meets its contract: the budget decides.
 use mathlib.Core.Path.{_∙_}
 use native.Mathlib.Omega.{arith}
-use Rattle.machine.proofs.Issuing.{spent, some}
 use borrow.Author.Needs.{needs}
+use Rattle.machine.proofs.Issuing.{spent, some}
 use Rattle.machine.proofs.steps.issued.Statement.{statement}
 use Rattle.machine.proofs.steps.issued.Tie as tie
 

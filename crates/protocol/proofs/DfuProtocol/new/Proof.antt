@@ -1,7 +1,7 @@
 -- `new` meets its contract: the tests are those of the definition, in its order.
 use borrow.Author.Tests.{eq-eqb, ne-eqb, lt-ltb, le-ltb}
-use Rattle.protocol.specs.Interface.{interfaceOf}
 use borrow.Author.Needs.{needs}
+use Rattle.protocol.specs.Interface.{interfaceOf}
 use Rattle.protocol.proofs.DfuProtocol.new.Statement.{statement}
 use Rattle.protocol.proofs.DfuProtocol.new.Tie as tie
 

@@ -1,9 +1,9 @@
 -- `guard` meets its contract: the tests are those of the definition.
 use borrow.Author.Tests.{not-true, not-false}
 use mathlib.Core.Path.{ap}
-use Rattle.session.specs.declared.Guard.the-variants.{Shut}
-use Rattle.session.specs.Calls.{guardOf}
 use borrow.Author.Needs.{needs}
+use Rattle.session.specs.Calls.{guardOf}
+use Rattle.session.specs.declared.Guard.{Guard}
 use Rattle.session.proofs.Session.guard.Statement.{statement}
 use Rattle.session.proofs.Session.guard.Tie as tie
 
@@ -15,7 +15,7 @@ asked-requires c κs = search needs
 
 returns : tie.Need-returns
 unfolding guardOf
-returns c = simp (← (c .before .before .is-live .ensures), not-true (c .before .before .is-live .result) (c .before .if1 .taken)) (ap Shut (c .asked .ensures))
+returns c = simp (← (c .before .before .is-live .ensures), not-true (c .before .before .is-live .result) (c .before .if1 .taken)) (ap Guard.Shut (c .asked .ensures))
 
 as-at-start-requires : tie.Need-as-at-start-requires
 as-at-start-requires c κs = search needs

@@ -1,14 +1,14 @@
 -- `told_count` meets its contract: a law of the call for each way out.
 use mathlib.Core.Path.{refl, sym, ap, _∙_}
 use lib.ListN.{length}
-use Rattle.work.specs.declared.Progress.{Progress}
-use Rattle.machine.specs.declared.Phase.the-variants.{Clear, Sent}
-use Rattle.machine.specs.Machine.{onCount}
-use Rattle.session.specs.Told.{count, over, go}
-use Rattle.download.specs.Download.{download}
-use Rattle.session.proofs.Calls.{no-count, at-phase, live, through-open, through-shut}
-use Rattle.machine.specs.declared.Moved.{Moved}
 use borrow.Author.Needs.{needs}
+use Rattle.work.specs.declared.Progress.{Progress}
+use Rattle.download.specs.Download.{download}
+use Rattle.machine.specs.Machine.{onCount}
+use Rattle.machine.specs.declared.Moved.{Moved}
+use Rattle.machine.specs.declared.Phase.{Phase}
+use Rattle.session.specs.Told.{count, over, go}
+use Rattle.session.proofs.Calls.{no-count, at-phase, live, through-open, through-shut}
 use Rattle.session.proofs.Session.told_count.Statement.{statement}
 use Rattle.session.proofs.Session.told_count.Tie as tie
 
@@ -57,7 +57,7 @@ returns-2 c =
     let ps = a .pages .now in
     let g = sym (c .before .before .before .before .before .before .before .before .guard .ensures) ∙ c .before .before .before .before .enum-told .given .1 in
     let thence = through-open (length (a .firmware .now)) (length (a .command .now)) ps s (count (a .count)) g in
-    c .step-to .ensures ∙ ap (λ (m : Moved). go (over (s .setup) m)) (c .before .issued .ensures) ∙ at-phase (download ps) s (count (a .count)) Clear (c .before .before .enum-told2 .given .1) ∙ thence
+    c .step-to .ensures ∙ ap (λ (m : Moved). go (over (s .setup) m)) (c .before .issued .ensures) ∙ at-phase (download ps) s (count (a .count)) Phase.Clear (c .before .before .enum-told2 .given .1) ∙ thence
 
 returns-3 : tie.Need-returns-3
 returns-3 c =
@@ -68,7 +68,7 @@ returns-3 c =
     let thence = through-open (length (a .firmware .now)) (length (a .command .now)) ps s (count (a .count)) g in
     let sent = c .before .before .before .before .phase .given .0 .0 in
     let moved = ap (λ (x : Progress). onCount (s .setup) (s .progress) (s .left) sent x (a .count)) (c .before .before .took .ensures) in
-    c .step-to2 .ensures ∙ ap (λ (m : Moved). go (over (s .setup) m)) (c .before .counted .ensures ∙ moved) ∙ at-phase (download ps) s (count (a .count)) (Sent sent) (c .before .before .before .before .phase .given .1) ∙ thence
+    c .step-to2 .ensures ∙ ap (λ (m : Moved). go (over (s .setup) m)) (c .before .counted .ensures ∙ moved) ∙ at-phase (download ps) s (count (a .count)) (Phase.Sent sent) (c .before .before .before .before .phase .given .1) ∙ thence
 
 returns-4 : tie.Need-returns-4
 returns-4 c =

@@ -1,11 +1,11 @@
 -- `told_failure` meets its contract: a law of the call for each way out.
 use mathlib.Core.Path.{refl, sym, ap, _∙_}
 use lib.ListN.{length}
-use Rattle.session.specs.Told.{failed, over, go}
-use Rattle.download.specs.Download.{download}
-use Rattle.session.proofs.Calls.{no-failure, failure, at-phase, live, through-open, through-shut}
-use Rattle.machine.specs.declared.Moved.{Moved}
 use borrow.Author.Needs.{needs}
+use Rattle.download.specs.Download.{download}
+use Rattle.machine.specs.declared.Moved.{Moved}
+use Rattle.session.specs.Told.{failed, over, go}
+use Rattle.session.proofs.Calls.{no-failure, failure, at-phase, live, through-open, through-shut}
 use Rattle.session.proofs.Session.told_failure.Statement.{statement}
 use Rattle.session.proofs.Session.told_failure.Tie as tie
 

@@ -1,17 +1,17 @@
 -- `told_reply` meets its contract: a law of the call for each way out, and the command bytes filled.
 use mathlib.Core.Path.{refl, sym, ap, _∙_}
 use lib.ListN.{length}
-use Rattle.session.specs.declared.Step.{Step}
+use borrow.Author.Needs.{needs}
 use Rattle.work.specs.declared.Todo.{Todo}
-use Rattle.work.specs.declared.Wait.the-variants.{Poll}
-use Rattle.machine.specs.declared.Phase.the-variants.{First, Second, Waiting}
-use Rattle.machine.specs.Machine.{laterReply, reading, onSecond, onPoll}
-use Rattle.session.specs.Told.{reply, over, go}
+use Rattle.work.specs.declared.Wait.{Wait}
 use Rattle.download.specs.Download.{download}
+use Rattle.machine.specs.Machine.{laterReply, reading, onSecond, onPoll}
+use Rattle.machine.specs.declared.Moved.{Moved}
+use Rattle.machine.specs.declared.Phase.{Phase}
+use Rattle.session.specs.declared.Step.{Step}
+use Rattle.session.specs.Told.{reply, over, go}
 use Rattle.session.specs.Calls.{filled, out}
 use Rattle.session.proofs.Calls.{no-reply, at-phase, stays, live, room, reply-open, reply-shut}
-use Rattle.machine.specs.declared.Moved.{Moved}
-use borrow.Author.Needs.{needs}
 use Rattle.session.proofs.Session.told_reply.Statement.{statement}
 use Rattle.session.proofs.Session.told_reply.Tie as tie
 
@@ -100,7 +100,7 @@ returns-2 c =
     let g = sym (c .before .before .before .before .before .before .before .before .before .before .before .before .guard .ensures) ∙ c .before .before .before .before .before .before .before .before .enum-told .given .1 in
     let thence = reply-open (a .firmware .now) ps (a .command .now) s (reply (a .got .now)) g in
     c .before .before .filled-in .ensures
-    ∙ ap (λ (st : Step). filled st (a .command .now)) (c .before .before .before .before .step-to .ensures ∙ ap (λ (m : Moved). go (over (s .setup) m)) (c .before .before .before .before .before .first-reply .ensures) ∙ at-phase (download ps) s (reply (a .got .now)) First (c .before .before .before .before .before .before .enum-told2 .given .1))
+    ∙ ap (λ (st : Step). filled st (a .command .now)) (c .before .before .before .before .step-to .ensures ∙ ap (λ (m : Moved). go (over (s .setup) m)) (c .before .before .before .before .before .first-reply .ensures) ∙ at-phase (download ps) s (reply (a .got .now)) Phase.First (c .before .before .before .before .before .before .enum-told2 .given .1))
     ∙ thence
 
 same-length-2 : tie.Need-same-length-2
@@ -115,7 +115,7 @@ returns-3 c =
     let thence = reply-open (a .firmware .now) ps (a .command .now) s (reply (a .got .now)) g in
     let todo = ap (λ (t : Todo). go (over (s .setup) (reading (s .progress) (s .left) (laterReply (a .got .now)) (onSecond (s .progress) (s .left) t)))) (c .before .before .before .before .before .before .next .ensures) in
     c .before .before .filled-in2 .ensures
-    ∙ ap (λ (st : Step). filled st (a .command .now)) (c .before .before .before .before .step-to2 .ensures ∙ ap (λ (m : Moved). go (over (s .setup) m)) (c .before .before .before .before .before .second-reply .ensures) ∙ todo ∙ at-phase (download ps) s (reply (a .got .now)) Second (c .before .before .before .before .before .before .before .enum-told3 .given .1))
+    ∙ ap (λ (st : Step). filled st (a .command .now)) (c .before .before .before .before .step-to2 .ensures ∙ ap (λ (m : Moved). go (over (s .setup) m)) (c .before .before .before .before .before .second-reply .ensures) ∙ todo ∙ at-phase (download ps) s (reply (a .got .now)) Phase.Second (c .before .before .before .before .before .before .before .enum-told3 .given .1))
     ∙ thence
 
 same-length-3 : tie.Need-same-length-3
@@ -134,7 +134,7 @@ returns-4 c =
     c .before .before .filled-in3 .ensures
     ∙ ap (λ (st : Step). filled st (a .command .now))
     (c .before .before .before .before .step-to3 .ensures ∙ ap (λ (m : Moved). go (over (s .setup) m)) (c .before .before .before .before .before .wait-reply .ensures) ∙ todo
-    ∙ at-phase (download ps) s (reply (a .got .now)) (Waiting (Poll busy target)) (c .before .before .before .before .before .before .before .before .before .before .before .phase .given .1 ∙ ap Waiting (c .before .before .before .before .before .before .before .before .wait .given .1)))
+    ∙ at-phase (download ps) s (reply (a .got .now)) (Phase.Waiting (Wait.Poll busy target)) (c .before .before .before .before .before .before .before .before .before .before .before .phase .given .1 ∙ ap Phase.Waiting (c .before .before .before .before .before .before .before .before .wait .given .1)))
     ∙ thence
 
 returns-5 : tie.Need-returns-5
@@ -145,7 +145,7 @@ returns-5 c =
     let g = sym (c .before .before .before .before .before .before .before .before .before .before .guard .ensures) ∙ c .before .before .before .before .before .before .enum-told .given .1 in
     let thence = reply-open (a .firmware .now) ps (a .command .now) s (reply (a .got .now)) g in
     ap (λ (st : Step). out st (a .command .now)) (c .not-awaited .ensures)
-    ∙ ap (λ (st : Step). filled st (a .command .now)) (stays (download ps) s (reply (a .got .now)) _ (c .before .before .before .before .phase .given .1 ∙ ap Waiting (c .before .enum-told4 .given .1)) refl)
+    ∙ ap (λ (st : Step). filled st (a .command .now)) (stays (download ps) s (reply (a .got .now)) _ (c .before .before .before .before .phase .given .1 ∙ ap Phase.Waiting (c .before .enum-told4 .given .1)) refl)
     ∙ thence
 
 returns-6 : tie.Need-returns-6

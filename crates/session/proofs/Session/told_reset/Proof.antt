@@ -1,11 +1,11 @@
 -- `told_reset` meets its contract: a law of the call for each way out.
 use mathlib.Core.Path.{refl, sym, _∙_}
 use lib.ListN.{length}
-use Rattle.machine.specs.declared.Phase.the-variants.{Resetting}
-use Rattle.session.specs.Told.{wasReset}
-use Rattle.download.specs.Download.{download}
-use Rattle.session.proofs.Calls.{no-reset, at-phase, live, through-open, through-shut}
 use borrow.Author.Needs.{needs}
+use Rattle.download.specs.Download.{download}
+use Rattle.machine.specs.declared.Phase.{Phase}
+use Rattle.session.specs.Told.{wasReset}
+use Rattle.session.proofs.Calls.{no-reset, at-phase, live, through-open, through-shut}
 use Rattle.session.proofs.Session.told_reset.Statement.{statement}
 use Rattle.session.proofs.Session.told_reset.Tie as tie
 
@@ -51,7 +51,7 @@ returns-3 c =
     let ps = a .pages .now in
     let g = sym (c .before .before .before .before .before .before .before .guard .ensures) ∙ c .before .before .before .enum-told .given .1 in
     let thence = through-open (length (a .firmware .now)) (length (a .command .now)) ps s wasReset g in
-    c .step-to .ensures ∙ at-phase (download ps) s wasReset Resetting (c .before .enum-told2 .given .1) ∙ thence
+    c .step-to .ensures ∙ at-phase (download ps) s wasReset Phase.Resetting (c .before .enum-told2 .given .1) ∙ thence
 
 pub told-reset-spec : {M : Type 1} → statement M
 told-reset-spec =

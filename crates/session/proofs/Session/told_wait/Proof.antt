@@ -1,12 +1,12 @@
 -- `told_wait` meets its contract: a law of the call for each way out.
 use mathlib.Core.Path.{refl, sym, ap, _∙_}
 use lib.ListN.{length}
-use Rattle.machine.specs.declared.Phase.the-variants.{Waiting}
-use Rattle.session.specs.Told.{waited, over, go}
-use Rattle.download.specs.Download.{download}
-use Rattle.session.proofs.Calls.{no-wait, at-phase, stays, live, through-open, through-shut}
-use Rattle.machine.specs.declared.Moved.{Moved}
 use borrow.Author.Needs.{needs}
+use Rattle.download.specs.Download.{download}
+use Rattle.machine.specs.declared.Moved.{Moved}
+use Rattle.machine.specs.declared.Phase.{Phase}
+use Rattle.session.specs.Told.{waited, over, go}
+use Rattle.session.proofs.Calls.{no-wait, at-phase, stays, live, through-open, through-shut}
 use Rattle.session.proofs.Session.told_wait.Statement.{statement}
 use Rattle.session.proofs.Session.told_wait.Tie as tie
 
@@ -53,7 +53,7 @@ returns-2 c =
     let ps = a .pages .now in
     let g = sym (c .before .before .before .before .before .before .before .before .before .before .guard .ensures) ∙ c .before .before .before .before .before .before .enum-told .given .1 in
     let thence = through-open (length (a .firmware .now)) (length (a .command .now)) ps s waited g in
-    c .not-awaited2 .ensures ∙ stays (download ps) s waited _ (c .before .before .before .before .phase .given .1 ∙ ap Waiting (c .before .enum-told2 .given .1)) refl ∙ thence
+    c .not-awaited2 .ensures ∙ stays (download ps) s waited _ (c .before .before .before .before .phase .given .1 ∙ ap Phase.Waiting (c .before .enum-told2 .given .1)) refl ∙ thence
 
 issued-requires : tie.Need-issued-requires
 issued-requires c κs = search needs
@@ -73,7 +73,7 @@ returns-4 c =
     let ps = a .pages .now in
     let g = sym (c .before .before .before .before .before .before .before .before .before .before .before .before .guard .ensures) ∙ c .before .before .before .before .before .before .before .before .enum-told .given .1 in
     let thence = through-open (length (a .firmware .now)) (length (a .command .now)) ps s waited g in
-    c .step-to .ensures ∙ ap (λ (m : Moved). go (over (s .setup) m)) (c .before .issued .ensures) ∙ at-phase (download ps) s waited _ (c .before .before .before .before .before .before .phase .given .1 ∙ ap Waiting (c .before .before .before .wait .given .1)) ∙ thence
+    c .step-to .ensures ∙ ap (λ (m : Moved). go (over (s .setup) m)) (c .before .issued .ensures) ∙ at-phase (download ps) s waited _ (c .before .before .before .before .before .before .phase .given .1 ∙ ap Phase.Waiting (c .before .before .before .wait .given .1)) ∙ thence
 
 pub told-wait-spec : {M : Type 1} → statement M
 told-wait-spec =

@@ -1,7 +1,7 @@
 -- `as_at_start` meets its contract: the tests are those of the definition.
 use borrow.Author.Tests.{eq-eqb, ne-eqb, lt-ltb, le-ltb}
-use Rattle.session.specs.Calls.{asAtStart}
 use borrow.Author.Needs.{needs}
+use Rattle.session.specs.Calls.{asAtStart}
 use Rattle.session.proofs.lending.as_at_start.Statement.{statement}
 use Rattle.session.proofs.lending.as_at_start.Tie as tie
 

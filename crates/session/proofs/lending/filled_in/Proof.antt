@@ -1,9 +1,9 @@
 -- `filled_in` meets its contract: only a transfer fills anything.
 use mathlib.Core.Path.{sym, ap, _∙_}
+use borrow.Author.Needs.{needs}
+use Rattle.wire.proofs.Lent.{roomy}
 use Rattle.machine.specs.declared.Ask.{Ask}
 use Rattle.session.specs.Calls.{filledBy, out}
-use Rattle.wire.proofs.Lent.{roomy}
-use borrow.Author.Needs.{needs}
 use Rattle.session.proofs.lending.filled_in.Statement.{statement}
 use Rattle.session.proofs.lending.filled_in.Tie as tie
 

@@ -1,7 +1,7 @@
 -- `begin` meets its contract: the tests are those of the definition, in its order.
 use borrow.Author.Tests.{lt-ltb, le-ltb}
-use Rattle.start.specs.Start.{beginOf}
 use borrow.Author.Needs.{needs}
+use Rattle.start.specs.Start.{beginOf}
 use Rattle.start.proofs.DfuSansIo.begin.Statement.{statement}
 use Rattle.start.proofs.DfuSansIo.begin.Tie as tie
 

@@ -4,7 +4,7 @@ use native.Mathlib.Omega.{arith}
 use lib.Seq.{length-take-le}
 use borrow.Author.Tests.{not-true, not-false}
 use borrow.Author.Needs.{needs}
-use Rattle.suffix.specs.declared.Suffix.the-variants.{Read}
+use Rattle.suffix.specs.declared.Suffix.{Suffix}
 use Rattle.suffix.proofs.Tested.{too-short, no-signature, wrong-length, wrong-crc, all-read}
 use Rattle.suffix.proofs.Suffix.read.Statement.{statement}
 use Rattle.suffix.proofs.Suffix.read.Tie as tie
@@ -70,7 +70,7 @@ ids-requires c κs = search needs
 
 returns-5 : tie.Need-returns-5
 returns-5 c =
-    ap₂ Read (c .ids .ensures) (c .before .before .before .before .word-at .ensures)
+    ap₂ Suffix.Read (c .ids .ensures) (c .before .before .before .before .word-at .ensures)
     ∙ all-read _ (c .before .before .before .before .before .before .before .before .before .before .before .before .if1 .left) (sym (c .before .before .before .before .before .before .before .before .starts-with .ensures) ∙ not-false _ (c .before .before .before .before .before .before .before .if2 .left)) (c .before .before .before .before .before .if3 .left)
     (sym (c .before .before .before .before .word-at .ensures) ∙ c .before .if4 .left ∙ c .before .before .of .ensures)
 

@@ -1,0 +1,10 @@
+pub mod Digits
+pub mod Rows
+pub mod Pairs
+pub mod Hex
+pub mod Numbers
+pub mod Puts
+pub mod Spelled
+pub mod Texts
+pub mod Pieces
+pub mod Pinned
