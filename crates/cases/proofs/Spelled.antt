@@ -1,4 +1,4 @@
--- The digits that `io::decimal` puts are those of `digitsOf`. Assumes nothing.
+-- The digits that `io::decimal` puts are those of `decimalText`. Assumes nothing.
 use Prim.Native.Nat.{ℕ, zero, suc, _+_, _-_, _/_, _%_, _^_, _<_, _≤_}
 use mathlib.Core.Path.{_≡_, ap, _∙_}
 use mathlib.Core.List.{List, [], _∷_, _++_}
@@ -7,7 +7,7 @@ use native.Mathlib.Omega.{arith}
 use borrow.Author.Tests.{lt-ltb, le-ltb}
 use Rattle.ground.proofs.Tests.{lt-or-ge}
 use Rattle.io.specs.Digits.{glyph, digits, Fewest}
-use Rattle.cases.specs.Output.{Filled, put, puts, digitsOf, valueText}
+use Rattle.cases.specs.Output.{Filled, put, puts, decimalText, valueText}
 
 glyph-is : (d : ℕ) → d < 10 → glyph d ≡ 48 + d
 glyph-is d h = simp (lt-ltb d 10 h)
@@ -15,8 +15,8 @@ glyph-is d h = simp (lt-ltb d 10 h)
 one-less : (n : ℕ) → suc n - 1 ≡ n
 one-less n = omega arith
 
-pub spelled : (most n x : ℕ) → n ≤ most → Fewest 10 1 x n → digits 10 n x ≡ digitsOf most x
-unfolding digitsOf
+pub spelled : (most n x : ℕ) → n ≤ most → Fewest 10 1 x n → digits 10 n x ≡ decimalText most x
+unfolding decimalText
 spelled most zero x h f = absurd (omega (arith, f .0))
 spelled zero (suc n) x h f = absurd (omega arith)
 spelled (suc most) (suc zero) x h f =
@@ -28,7 +28,7 @@ spelled (suc most) (suc (suc n)) x h f =
     let rest : Fewest 10 1 (x / 10) (suc n) = (omega arith, omega (arith, f .1), λ (_ : 1 < suc n). less) in
     simp (le-ltb x 10 (omega arith))
     (ap (λ (t : List ℕ). t ++ (glyph (x % 10) ∷ [])) (spelled most (suc n) (x / 10) (omega arith) rest)
-    ∙ ap (λ (d : ℕ). digitsOf most (x / 10) ++ (d ∷ [])) (glyph-is (x % 10) (omega arith)))
+    ∙ ap (λ (d : ℕ). decimalText most (x / 10) ++ (d ∷ [])) (glyph-is (x % 10) (omega arith)))
 
 -- a number of 64 bits has 20 digits at most
 powers : (k : ℕ) → 20 ≤ k → 10 ^ 20 ≤ 10 ^ k

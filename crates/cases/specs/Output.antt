@@ -29,9 +29,9 @@ puts f [] = f
 puts f (b ∷ bs) = puts (put f b) bs
 
 -- a number's decimal digits, with no leading zeros: so many at most
-unfoldable pub digitsOf : ℕ → ℕ → List ℕ
-digitsOf zero x = []
-digitsOf (suc n) x = pick (ltb x 10) ((48 + x) ∷ []) (digitsOf n (x / 10) ++ ((48 + x % 10) ∷ []))
+unfoldable pub decimalText : ℕ → ℕ → List ℕ
+decimalText zero x = []
+decimalText (suc n) x = pick (ltb x 10) ((48 + x) ∷ []) (decimalText n (x / 10) ++ ((48 + x % 10) ∷ []))
 
 -- a text for each number of a list
 unfoldable pub joined : (ℕ → List ℕ) → List ℕ → List ℕ
@@ -40,7 +40,7 @@ joined text (x ∷ xs) = text x ++ joined text xs
 
 -- a word that is a number, and one for each of several; a number of 64 bits has 20 digits at most
 unfoldable pub valueText : ℕ → List ℕ
-valueText x = 32 ∷ digitsOf 20 x
+valueText x = 32 ∷ decimalText 20 x
 
 abbrev pub valuesText : List ℕ → List ℕ
 valuesText xs = joined valueText xs

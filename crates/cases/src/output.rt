@@ -14,7 +14,7 @@ pub enum Refusal {
     Two(u64, u64, u64),
 }
 
-// Writes out what the buffer holds.
+// Writes out what the buffer holds: nothing of that can be seen in the program.
 pub fn flush(out: &[u8], at: usize) {
     if at <= out.len() {
         io::write_all(STDOUT_FILENO, &out[0..at]);
