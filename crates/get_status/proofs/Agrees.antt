@@ -7,9 +7,11 @@ use lib.ListN.{length}
 use borrow.Author.Tests.{le-ltb}
 use Rattle.ground.specs.Bytes.{littleEndian, field}
 use Rattle.papers.specs.Status.{StatusReply, bytesOf, DfuState, bStateOf, appIDLE, appDETACH, dfuIDLE, dfuDNLOAD-SYNC, dfuDNBUSY, dfuDNLOAD-IDLE, dfuMANIFEST-SYNC, dfuMANIFEST, dfuMANIFEST-WAIT-RESET, dfuUPLOAD-IDLE, dfuERROR}
+use Rattle.papers.specs.Status.{DfuStatus, bStatusOf, OK, errTARGET, errFILE, errWRITE, errERASE, errCHECK-ERASED, errPROG, errVERIFY, errADDRESS, errNOTDONE, errFIRMWARE, errVENDOR, errUSBR, errPOR, errUNKNOWN, errSTALLEDPKT}
 use Rattle.get_status.specs.declared.State.{State}
+use Rattle.get_status.specs.declared.Status.{Status}
 use Rattle.get_status.specs.declared.GetStatusMessage.{GetStatusMessage}
-use Rattle.get_status.specs.Names.{stateOf, stateByte, statusOf, settled}
+use Rattle.get_status.specs.Names.{stateOf, stateByte, statusOf, statusByte, settled}
 use Rattle.get_status.specs.Reply.{replyOf}
 use Rattle.get_status.specs.declared.Reply.{Reply}
 
@@ -55,3 +57,40 @@ state-numbers dfuMANIFEST = (refl, refl)
 state-numbers dfuMANIFEST-WAIT-RESET = (refl, refl)
 state-numbers dfuUPLOAD-IDLE = (refl, refl)
 state-numbers dfuERROR = (refl, refl)
+
+-- and so have its statuses
+abbrev pub statusNamed : DfuStatus → Status
+statusNamed OK = Status.Ok
+statusNamed errTARGET = Status.ErrTarget
+statusNamed errFILE = Status.ErrFile
+statusNamed errWRITE = Status.ErrWrite
+statusNamed errERASE = Status.ErrErase
+statusNamed errCHECK-ERASED = Status.ErrCheckErased
+statusNamed errPROG = Status.ErrProg
+statusNamed errVERIFY = Status.ErrVerify
+statusNamed errADDRESS = Status.ErrAddress
+statusNamed errNOTDONE = Status.ErrNotdone
+statusNamed errFIRMWARE = Status.ErrFirmware
+statusNamed errVENDOR = Status.ErrVendor
+statusNamed errUSBR = Status.ErrUsbr
+statusNamed errPOR = Status.ErrPor
+statusNamed errUNKNOWN = Status.ErrUnknown
+statusNamed errSTALLEDPKT = Status.ErrStalledpkt
+
+pub status-numbers : (s : DfuStatus) → (statusByte (statusNamed s) ≡ bStatusOf s) × (statusOf (bStatusOf s) ≡ statusNamed s)
+status-numbers OK = (refl, refl)
+status-numbers errTARGET = (refl, refl)
+status-numbers errFILE = (refl, refl)
+status-numbers errWRITE = (refl, refl)
+status-numbers errERASE = (refl, refl)
+status-numbers errCHECK-ERASED = (refl, refl)
+status-numbers errPROG = (refl, refl)
+status-numbers errVERIFY = (refl, refl)
+status-numbers errADDRESS = (refl, refl)
+status-numbers errNOTDONE = (refl, refl)
+status-numbers errFIRMWARE = (refl, refl)
+status-numbers errVENDOR = (refl, refl)
+status-numbers errUSBR = (refl, refl)
+status-numbers errPOR = (refl, refl)
+status-numbers errUNKNOWN = (refl, refl)
+status-numbers errSTALLEDPKT = (refl, refl)

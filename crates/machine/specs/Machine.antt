@@ -12,6 +12,8 @@ use Rattle.get_status.specs.declared.GetStatusMessage.{GetStatusMessage}
 use Rattle.get_status.specs.declared.Reply.{Reply}
 use Rattle.get_status.specs.declared.Met.{Met}
 use Rattle.wire.specs.declared.Command.{Command}
+use Rattle.wire.specs.declared.Control.{Control}
+use Rattle.wire.specs.Wire.{wireOf}
 use Rattle.wire.specs.declared.Request.{Request}
 use Rattle.work.specs.declared.Error.{Error}
 use Rattle.work.specs.declared.End.{End}
@@ -94,11 +96,16 @@ asksAt Phase.Resetting = Ask.Reset
 asksAt (Phase.Finished e) = Ask.Finished e
 asksAt (Phase.Refused e) = Ask.Refused e
 
+-- document 01's number and values for a refusal; 0 for what is asked, and values that tell which: 1 a transfer on the wire, 2 a wait, 3 the reset, 4 and 5 the ends
+abbrev pub saidWire : Control → Said
+saidWire c = says 0 (1 ∷ c .«request_type» ∷ c .request ∷ c .value ∷ c .takes ∷ c .carries ∷ [])
+
 abbrev pub saidAsk : Ask → Said
-saidAsk (Ask.Transfer q) = says 0 []
-saidAsk (Ask.Wait ms) = says 0 (ms ∷ [])
-saidAsk Ask.Reset = says 0 []
-saidAsk (Ask.Finished e) = says 0 []
+saidAsk (Ask.Transfer q) = saidWire (wireOf q)
+saidAsk (Ask.Wait ms) = says 0 (2 ∷ ms ∷ [])
+saidAsk Ask.Reset = says 0 (3 ∷ [])
+saidAsk (Ask.Finished End.Stays) = says 0 (4 ∷ [])
+saidAsk (Ask.Finished End.Reset) = says 0 (5 ∷ [])
 saidAsk (Ask.Refused e) = saidError e
 
 -- a session that has not ended

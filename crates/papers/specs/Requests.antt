@@ -12,6 +12,9 @@ abbrev pub packet : ℕ → ℕ → ℕ → ℕ → SetupPacket
 packet type request val len = record { bmRequestType = type; bRequest = request; wValue = val; wLength = len }
 
 -- 0x21 sends to the device, 0xA1 takes from it
+abbrev pub DFU_DETACH : ℕ → SetupPacket
+DFU_DETACH timeout = packet 0x21 0 timeout 0
+
 abbrev pub DFU_DNLOAD : ℕ → ℕ → SetupPacket
 DFU_DNLOAD block len = packet 0x21 1 block len
 

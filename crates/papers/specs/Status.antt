@@ -47,3 +47,40 @@ bStateOf dfuMANIFEST = 7
 bStateOf dfuMANIFEST-WAIT-RESET = 8
 bStateOf dfuUPLOAD-IDLE = 9
 bStateOf dfuERROR = 10
+
+-- bStatus
+pub data DfuStatus : Type 0 where
+  OK : DfuStatus
+  errTARGET : DfuStatus
+  errFILE : DfuStatus
+  errWRITE : DfuStatus
+  errERASE : DfuStatus
+  errCHECK-ERASED : DfuStatus
+  errPROG : DfuStatus
+  errVERIFY : DfuStatus
+  errADDRESS : DfuStatus
+  errNOTDONE : DfuStatus
+  errFIRMWARE : DfuStatus
+  errVENDOR : DfuStatus
+  errUSBR : DfuStatus
+  errPOR : DfuStatus
+  errUNKNOWN : DfuStatus
+  errSTALLEDPKT : DfuStatus
+
+abbrev pub bStatusOf : DfuStatus → ℕ
+bStatusOf OK = 0x00
+bStatusOf errTARGET = 0x01
+bStatusOf errFILE = 0x02
+bStatusOf errWRITE = 0x03
+bStatusOf errERASE = 0x04
+bStatusOf errCHECK-ERASED = 0x05
+bStatusOf errPROG = 0x06
+bStatusOf errVERIFY = 0x07
+bStatusOf errADDRESS = 0x08
+bStatusOf errNOTDONE = 0x09
+bStatusOf errFIRMWARE = 0x0a
+bStatusOf errVENDOR = 0x0b
+bStatusOf errUSBR = 0x0c
+bStatusOf errPOR = 0x0d
+bStatusOf errUNKNOWN = 0x0e
+bStatusOf errSTALLEDPKT = 0x0f

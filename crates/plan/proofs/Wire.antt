@@ -17,22 +17,22 @@ use Rattle.start.specs.declared.Override.{Override}
 use Rattle.start.specs.Start.{beginOf}
 use Rattle.plan.specs.Sent.{carried, taken}
 
-pub status-agrees : taken (wireOf Request.GetStatus) ≡ DFU_GETSTATUS
+pub status-agrees : taken (wireOf Request.GetStatus) ≡ (DFU_GETSTATUS, 0)
 status-agrees = refl
 
-pub clear-agrees : carried (wireOf Request.ClearStatus) ≡ DFU_CLRSTATUS
+pub clear-agrees : carried (wireOf Request.ClearStatus) ≡ (DFU_CLRSTATUS, 0)
 clear-agrees = refl
 
-pub block-agrees : (n f m : ℕ) → carried (wireOf (Request.Command (Command.Block n f m))) ≡ DFU_DNLOAD n m
+pub block-agrees : (n f m : ℕ) → carried (wireOf (Request.Command (Command.Block n f m))) ≡ (DFU_DNLOAD n m, 0)
 block-agrees n f m = refl
 
-pub empty-agrees : (n : ℕ) → carried (wireOf (Request.Command (Command.Empty n))) ≡ DFU_DNLOAD n 0
+pub empty-agrees : (n : ℕ) → carried (wireOf (Request.Command (Command.Empty n))) ≡ (DFU_DNLOAD n 0, 0)
 empty-agrees n = refl
 
-pub erase-agrees : (a : ℕ) → carried (wireOf (Request.Command (Command.Erase a))) ≡ DFU_DNLOAD 0 5
+pub erase-agrees : (a : ℕ) → carried (wireOf (Request.Command (Command.Erase a))) ≡ (DFU_DNLOAD 0 5, 0)
 erase-agrees a = refl
 
-pub address-agrees : (a : ℕ) → carried (wireOf (Request.Command (Command.SetAddress a))) ≡ DFU_DNLOAD 0 5
+pub address-agrees : (a : ℕ) → carried (wireOf (Request.Command (Command.SetAddress a))) ≡ (DFU_DNLOAD 0 5, 0)
 address-agrees a = refl
 
 -- the command bytes that a call fills, handed back as the request's data, are the paper's command

@@ -15,16 +15,16 @@ use Rattle.start.specs.declared.DfuSansIo.{DfuSansIo}
 use Rattle.start.specs.Start.{dfuseb, targetOf, beginOf}
 use Rattle.start.specs.declared.Started.{Started}
 
--- our control transfers as setup packets: with the bytes that they carry, with the bytes that they take
-abbrev pub carried : Control → SetupPacket
-carried c = packet (c .«request_type») (c .request) (c .value) (c .carries)
+-- our control transfers as setup packets, with both lengths: the bytes that they carry, and beside the packet those that they take; and the other way round
+abbrev pub carried : Control → SetupPacket × ℕ
+carried c = (packet (c .«request_type») (c .request) (c .value) (c .carries), c .takes)
 
-abbrev pub taken : Control → SetupPacket
-taken c = packet (c .«request_type») (c .request) (c .value) (c .takes)
+abbrev pub taken : Control → SetupPacket × ℕ
+taken c = (packet (c .«request_type») (c .request) (c .value) (c .takes), c .carries)
 
 -- a download request: its packet, and the bytes that `data` hands over for it
 abbrev pub onWire : List ℕ → Command → Dnload
-onWire firmware c = record { setup = carried (wireOf (Request.Command c)); bytes = requestData (Request.Command c) firmware (filledFor (Request.Command c) []) }
+onWire firmware c = record { setup = carried (wireOf (Request.Command c)) .0; bytes = requestData (Request.Command c) firmware (filledFor (Request.Command c) []) }
 
 -- the papers' requests for start's own arguments
 abbrev pub planOf : DfuSansIo → DfuProtocol → List ℕ → List ℕ → List Dnload

@@ -3,16 +3,17 @@ use Prim.Native.Nat.{ℕ, _≤_}
 use native.Mathlib.Omega.{arith}
 use mathlib.Core.Path.{_≡_, refl, subst, sym}
 use mathlib.Core.Logic.{⊎-elim}
-use mathlib.Core.List.{List}
+use mathlib.Core.List.{List, _++_}
 use lib.Dec.{eqb}
 use lib.ListN.{length}
 use Rattle.ground.proofs.Tests.{picked}
 use Rattle.work.specs.Work.{waitAfter}
 use Rattle.plan.specs.Sent.{Begins}
-use Rattle.promises.specs.Words.{DfuProtocol, Command, Setup, Progress, Todo, Work, download, Session, Answer, DfuSansIo, setupOf}
-use Rattle.promises.specs.Run.{Event, opened, after, cleared}
+use Rattle.promises.specs.Words.{DfuProtocol, Command, Setup, Progress, Todo, Work, download, Session, Answer, DfuSansIo, setupOf, Phase}
+use Rattle.promises.specs.Run.{Event, opened, after, cleared, sentBy}
 use Rattle.promises.proofs.Walk.{Claims, Holds, Wished, WaitingAt, Good, run-always, either-end}
 use Rattle.promises.proofs.Started.{started}
+use Rattle.machine.specs.Machine.{asksAt}
 
 abbrev once : Claims
 once = record {
@@ -29,28 +30,29 @@ once = record {
 }
 
 module _ (w : Work) (su : Setup) where
-  waits : (c : Command) (n : ℕ) (pr : Progress) (l : ℕ) (h : List Event) → cleared h ≤ 1 → WaitingAt w su once (waitAfter su c n) pr l h
-  waits (Command.Erase a) k pr l h v = v
-  waits (Command.SetAddress a) k pr l h v = v
-  waits (Command.Block n f m) k pr l h v = v
-  waits (Command.Empty n) k pr l h v = v
+  begins : (c : Command) (n : ℕ) (pr : Progress) (l : ℕ) (h : List Event) → cleared h ≤ 1 → WaitingAt w su once (waitAfter su c n) pr l (sentBy (asksAt (Phase.Waiting (waitAfter su c n))) ++ h)
+  unfolding cleared
+  begins (Command.Erase a) k pr l h v = v
+  begins (Command.SetAddress a) k pr l h v = v
+  begins (Command.Block n f m) k pr l h v = v
+  begins (Command.Empty n) k pr l h v = v
 
   wished : (pr : Progress) (l : ℕ) (h : List Event) (t : Todo) → cleared h ≤ 1 → Wished w su once pr l h t
   unfolding cleared
-  wished pr l h (Todo.Send c then) v = λ m e. (v, λ n f. waits c n (w .took su then c n) m _ v)
+  wished pr l h (Todo.Send c then) v = λ m e. (v, λ n f. begins c n (w .took su then c n) m _ v)
   wished pr l h (Todo.End e) v = either-end w su once pr l h e v v
   wished pr l h (Todo.Refuse e) v = v
 
   holds : Holds w su once
   unfolding cleared
   holds = record {
-    first = λ pr l h st v. picked (λ (X : Type 0). X) (eqb st 10) _ _ (λ e. omega (arith, v)) (λ e. omega (arith, v));
+    first = λ pr l h st ms v. picked (λ (X : Type 0). X) (eqb st 10) _ _ (λ e. omega (arith, v)) (λ e. omega (arith, v));
     clear = λ pr l h v. v;
-    second = λ pr l h v. v;
+    second = λ pr l h ms v. v;
     wish = λ pr l h v. wished pr l h (w .next su pr) v;
     look = λ b t pr l h v. v;
-    busy = λ b t pr l h v. v;
-    settle = λ b t pr l h v. v;
+    busy = λ b t pr l h ms v. v;
+    settle = λ b t pr l h ms v. v;
     reset = λ pr l h v. v;
     cutFirst = λ pr l h v. omega (arith, v);
     cutClear = λ pr l h v. v;
@@ -62,7 +64,7 @@ module _ (w : Work) (su : Setup) where
     cutFinished = λ e pr l h v. v;
     cutRefused = λ e l h v. v;
     deny = λ e l h d v. v;
-    hear = λ l h st v. v;
+    hear = λ l h st ms v. v;
   }
 
 -- AT MOST ONE CLRSTATUS

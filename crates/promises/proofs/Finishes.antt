@@ -10,11 +10,12 @@ use Rattle.work.specs.Work.{waitAfter}
 use Rattle.download.specs.Download.{nextOf, tookOf}
 use Rattle.plan.specs.Sent.{onWire, planOf, Begins}
 use Rattle.promises.specs.Words.{DfuProtocol, Command, Request, Setup, Progress, Todo, download, Phase, Session, Answer, mk, DfuSansIo, setupOf, fresh}
-use Rattle.promises.specs.Run.{Event, sends, opened, after, commanded, Over}
+use Rattle.promises.specs.Run.{Event, sends, opened, after, commanded, Over, sentBy}
 use Rattle.promises.proofs.Walk.{Claims, Holds, Wished, WaitingAt, Good, run-always, run-over, either-end}
 use Rattle.promises.proofs.Wanted.{left, Heads, heads, wanted, fresh-wanted}
 use Rattle.promises.proofs.Onwire.{wanted-plan}
 use Rattle.promises.proofs.Started.{begun}
+use Rattle.machine.specs.Machine.{asksAt}
 
 -- what was commanded, and then what is still wanted, is all; what was commanded leads all
 abbrev So : List Command → List Event → List Command → Type 0
@@ -38,7 +39,8 @@ planned ps su all = record {
 }
 
 module _ (ps : List ℕ) (su : Setup) (all : List Command) where
-  wait-so : (c : Command) (k : ℕ) (pr : Progress) (l : ℕ) (h : List Event) → So all h (left ps su pr) → WaitingAt (download ps) su (planned ps su all) (waitAfter su c k) pr l h
+  wait-so : (c : Command) (k : ℕ) (pr : Progress) (l : ℕ) (h : List Event) → So all h (left ps su pr) → WaitingAt (download ps) su (planned ps su all) (waitAfter su c k) pr l (sentBy (asksAt (Phase.Waiting (waitAfter su c k))) ++ h)
+  unfolding commanded
   wait-so (Command.Erase a) k pr l h v = v
   wait-so (Command.SetAddress a) k pr l h v = v
   wait-so (Command.Block n f m) k pr l h v = v
@@ -62,13 +64,13 @@ module _ (ps : List ℕ) (su : Setup) (all : List Command) where
   holds : 0 < su .size → Holds (download ps) su (planned ps su all)
   unfolding commanded
   holds k = record {
-    first = λ pr l h st v. picked (λ (X : Type 0). X) (eqb st 10) _ _ (λ e. v) (λ e. v);
+    first = λ pr l h st ms v. picked (λ (X : Type 0). X) (eqb st 10) _ _ (λ e. v) (λ e. v);
     clear = λ pr l h v. v;
-    second = λ pr l h v. v;
+    second = λ pr l h ms v. v;
     wish = λ pr l h v. wished pr l h (nextOf ps su pr) (heads ps su pr k) v;
     look = λ b t pr l h v. v;
-    busy = λ b t pr l h v. v;
-    settle = λ b t pr l h v. v;
+    busy = λ b t pr l h ms v. v;
+    settle = λ b t pr l h ms v. v;
     cutFirst = λ pr l h v. (left ps su pr, v);
     cutClear = λ pr l h v. (left ps su pr, v);
     cutSecond = λ pr l h v. (left ps su pr, v);
@@ -80,7 +82,7 @@ module _ (ps : List ℕ) (su : Setup) (all : List Command) where
     cutFinished = λ e pr l h v. ([], v);
     cutRefused = λ e l h v. v;
     deny = λ e l h d v. v;
-    hear = λ l h st v. v;
+    hear = λ l h st ms v. v;
   }
 
 -- a session at its first request, with all of it still to come

@@ -1,13 +1,14 @@
 -- Claims that no event changes: of the states of a wait, of a reset that is awaited, of an end, of a refusal. Assumes nothing.
 use Prim.Native.Nat.{ℕ}
-use mathlib.Core.List.{List}
+use mathlib.Core.List.{List, _++_}
 use lib.Dec.{eqb}
 use Rattle.ground.proofs.Tests.{picked}
 use Rattle.get_status.specs.declared.State.{State}
 use Rattle.work.specs.Work.{waitAfter}
-use Rattle.promises.specs.Words.{Command, Setup, Progress, Todo, Wait, End, Error, Work}
-use Rattle.promises.specs.Run.{Event}
+use Rattle.promises.specs.Words.{Command, Setup, Progress, Todo, Wait, End, Error, Work, Phase}
+use Rattle.promises.specs.Run.{Event, sentBy}
 use Rattle.promises.proofs.Walk.{Claims, Ending, Holds, Wished, WaitingAt}
+use Rattle.machine.specs.Machine.{asksAt}
 
 module _ (W : State → State → Type 0) (R : Type 0) (F : End → Type 0) (D : Error → Type 0) where
   abbrev pub lasting : Claims
@@ -45,7 +46,7 @@ module _ (W : State → State → Type 0) (R : Type 0) (F : End → Type 0) (D :
     pub denies : (e : Error) → Ending e → D e
 
   module _ (w : Work) (su : Setup) (g : Lasts w su) where
-    waiting : (c : Command) (n : ℕ) (pr : Progress) (l : ℕ) (h : List Event) → OfWait (waitAfter su c n) → WaitingAt w su lasting (waitAfter su c n) pr l h
+    waiting : (c : Command) (n : ℕ) (pr : Progress) (l : ℕ) (h : List Event) → OfWait (waitAfter su c n) → WaitingAt w su lasting (waitAfter su c n) pr l (sentBy (asksAt (Phase.Waiting (waitAfter su c n))) ++ h)
     waiting (Command.Erase a) k pr l h v = v
     waiting (Command.SetAddress a) k pr l h v = v
     waiting (Command.Block n f m) k pr l h v = v
@@ -59,13 +60,13 @@ module _ (W : State → State → Type 0) (R : Type 0) (F : End → Type 0) (D :
 
     pub lasting-holds : Holds w su lasting
     lasting-holds = record {
-      first = λ pr l h st v. picked (λ (X : Type 0). X) (eqb st 10) _ _ (λ e. tt) (λ e. tt);
+      first = λ pr l h st ms v. picked (λ (X : Type 0). X) (eqb st 10) _ _ (λ e. tt) (λ e. tt);
       clear = λ pr l h v. tt;
-      second = λ pr l h v. tt;
+      second = λ pr l h ms v. tt;
       wish = λ pr l h v. wished pr l h (w .next su pr) (g .wishes pr);
       look = λ b t pr l h v. v;
-      busy = λ b t pr l h v. v;
-      settle = λ b t pr l h v. tt;
+      busy = λ b t pr l h ms v. v;
+      settle = λ b t pr l h ms v. tt;
       reset = λ pr l h v. g .reset v;
       cutFirst = λ pr l h v. tt;
       cutClear = λ pr l h v. tt;
@@ -77,7 +78,7 @@ module _ (W : State → State → Type 0) (R : Type 0) (F : End → Type 0) (D :
       cutFinished = λ e pr l h v. tt;
       cutRefused = λ e l h v. tt;
       deny = λ e l h d v. g .denies e d;
-      hear = λ l h st v. tt;
+      hear = λ l h st ms v. tt;
     }
 
 -- wishes of whose refusals nothing is claimed

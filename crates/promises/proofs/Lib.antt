@@ -26,3 +26,5 @@ pub mod Believed
 pub mod Limits
 pub mod Demand
 pub mod Enough
+pub mod Patience
+pub mod Refusals

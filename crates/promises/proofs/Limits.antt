@@ -52,7 +52,14 @@ module _ (su : Setup) (k : endOf su < limit) where
 
   below : (ps : List ℕ) → Steady Below (download ps) su
   unfolding nextOf commanded
-  below ps = record { status = λ l h v. v; clear = λ l h v. v; wish = λ pr. wishes (pr .stage) ps pr; hear = λ l h st v. v }
+  below ps = record {
+    status = λ l h v. v;
+    clear = λ l h v. v;
+    wish = λ pr. wishes (pr .stage) ps pr;
+    hear = λ l h st ms v. v;
+    pause = λ l h ms v. v;
+    resetting = λ l h v. v;
+  }
 
   abbrev Kept : World → Type 0
   Kept x = (x .session .setup ≡ su) × AllBelow (su .address) (commanded (x .past))
@@ -117,7 +124,8 @@ pub never-3 : (k : Ask) → saidAsk k .number ≡ 3 → ⊥
 never-3 (Ask.Transfer q) e = omega (arith, e)
 never-3 (Ask.Wait ms) e = omega (arith, e)
 never-3 Ask.Reset e = omega (arith, e)
-never-3 (Ask.Finished x) e = omega (arith, e)
+never-3 (Ask.Finished End.Stays) e = omega (arith, e)
+never-3 (Ask.Finished End.Reset) e = omega (arith, e)
 never-3 (Ask.Refused x) e = never-3-error x e
 
 pub start-never-3 : (e : StartError) → saidStart e .number ≡ 3 → ⊥

@@ -1,11 +1,13 @@
 -- Our machine has the promises, and each machine that is shut out lacks one. Assumes nothing.
-use Prim.Native.Nat.{ℕ, zero, suc, _*_, _≤_}
+use Prim.Native.Nat.{ℕ, zero, suc, _*_, _≤_, _+_}
 use native.Mathlib.Omega.{arith}
 use mathlib.Core.Path.{_≡_, refl, ap, sym, _∙_}
 use mathlib.Core.Bool.{Bool, true, false, true≢false}
 use mathlib.Core.List.{List, [], _∷_, _++_, map}
+use lib.Dec.{eqb}
 use lib.ListN.{length, getD, length-append, length-map}
 use Rattle.ground.specs.Bytes.{littleEndian, field, bytesLow}
+use Rattle.ground.specs.Said.{Said}
 use Rattle.papers.specs.Plan.{Dnload, erasing, several, blockOf, plan, leading, blocksFor}
 use Rattle.work.specs.Work.{blockCount}
 use Rattle.download.specs.Download.{covering, eraseNext, writeNext, nextOf, tookOf}
@@ -14,12 +16,12 @@ use Rattle.start.specs.Start.{begunOf, beginOf}
 use Rattle.start.specs.declared.StartError.{StartError}
 use Rattle.start.specs.declared.Started.{Started}
 use Rattle.plan.specs.Sent.{onWire, planOf}
-use Rattle.promises.specs.Words.{DfuProtocol, Request, End, download, Phase, Session, Answer, count, waited, mk, told, DfuSansIo, setupOf, fresh}
+use Rattle.promises.specs.Words.{pick, DfuProtocol, Request, End, download, Phase, Session, Answer, count, waited, mk, told, DfuSansIo, setupOf, fresh}
 use Rattle.promises.specs.Run.{Event, sends, hears, opened, afterBy, inTime, transfers, commanded, cleared}
-use Rattle.promises.specs.Whole.{opening, busyAfter, targetAfter, looks, Round, roundOf, rounds, requestOf, Listed}
+use Rattle.promises.specs.Whole.{opening, busyAfter, targetAfter, looks, Round, roundOf, rounds, requestOf, closing, Listed}
 use Rattle.promises.specs.Fair.{heededBy, FairBy, Ready}
 use Rattle.promises.specs.Samples.{deviceOf, shows}
-use Rattle.promises.specs.Machines.{ours, SendsThePlan, LeadsThePlan, ListsAll, Starts, Finishing, Sufficing, Spends, WholeBlocks, refusing, fixed, idle, hasty, blind, credulous, inventive, numberedFromThree, onePageMore, addressTwice}
+use Rattle.promises.specs.Machines.{ours, SendsThePlan, LeadsThePlan, ListsAll, Starts, Finishing, Sufficing, Spends, WholeBlocks, refusing, fixed, idle, hasty, blind, credulous, inventive, numberedFromThree, onePageMore, addressTwice, RequestsAll, RefusesExactly, restless, unreset}
 use Rattle.promises.specs.Believed.{AllAtBy}
 use Rattle.promises.proofs.Believed.{unrefused-whole, over-unrefused}
 use Rattle.promises.proofs.Started.{start-adds}
@@ -57,6 +59,12 @@ ours-spends io p fw ps budget s more b = run-adds (download ps) (opened s) more 
 pub ours-whole : WholeBlocks ours
 ours-whole io p fw ps budget s more b o = unrefused-whole (download ps) (opened s) more (over-unrefused ((afterBy (ours .told ps) (opened s) more) .session .phase) o)
 
+pub ours-requests : RequestsAll ours
+ours-requests io p fw ps budget s more b = refl
+
+pub ours-exact : RefusesExactly ours
+ours-exact io p n pages budget = refl
+
 -- two small updates: one byte, plain, and one byte to two pages of one byte
 abbrev sample : DfuSansIo
 sample = deviceOf true false 8
@@ -84,6 +92,13 @@ not-over e = let z : _≡_ {A = ℕ} 0 1 = cc in omega arith
 pub refusing-shut-out : Starts refusing → ⊥
 refusing-shut-out f = let (s, e) = f sample DfuProtocol.Dfu (7 ∷ []) [] 100 ready (omega arith) in not-begun e
 
+-- nor does it refuse exactly: a good start is no refusal
+pub refusing-inexact : RefusesExactly refusing → ⊥
+unfolding beginOf begunOf blockCount
+refusing-inexact f =
+    let e : _≡_ {A = ℕ} 5 0 = ap (λ (x : Said). x .number) (f sample DfuProtocol.Dfu 1 0 100) in
+    omega (arith, e)
+
 -- ten replies, to which neither of these two moves
 abbrev ten : List Answer
 ten = shows 2 ∷ shows 2 ∷ shows 2 ∷ shows 2 ∷ shows 2 ∷ shows 2 ∷ shows 2 ∷ shows 2 ∷ shows 2 ∷ shows 2 ∷ []
@@ -104,6 +119,19 @@ idle-shut-out f =
     let fair : FairBy 0 0 (idle .told []) begunPlain ten = ((six, tt), ((six, tt), ((six, tt), ((six, tt), ((six, tt), ((six, tt), ((six, tt), ((six, tt), ((six, tt), ((six, tt), tt)))))))))) in
     not-over ((f sample DfuProtocol.Dfu (7 ∷ []) [] 0 100 begunPlain ten ready refl fair (omega arith)) .done (omega arith))
 
+-- and by the request list: one asks where ours says 24, the other says nothing where ours asks
+pub fixed-requests-shut-out : RequestsAll fixed → ⊥
+unfolding beginOf begunOf afterBy transfers told
+fixed-requests-shut-out f =
+    let n : _≡_ {A = ℕ} 2 1 = ap (λ (x : List Request). length x) (f sample DfuProtocol.Dfu (7 ∷ []) [] 100 begunPlain (waited ∷ []) refl) in
+    omega (arith, n)
+
+pub idle-requests-shut-out : RequestsAll idle → ⊥
+unfolding beginOf begunOf afterBy transfers told onFirst field littleEndian
+idle-requests-shut-out f =
+    let n : _≡_ {A = ℕ} 1 2 = ap (λ (x : List Request). length x) (f sample DfuProtocol.Dfu (7 ∷ []) [] 100 begunPlain (shows 2 ∷ []) refl) in
+    omega (arith, n)
+
 -- FINISHING AT THE FIRST CALL has not sent the plan
 pub hasty-shut-out : SendsThePlan hasty → ⊥
 unfolding beginOf begunOf afterBy commanded plan leading blocksFor several blockCount
@@ -119,8 +147,8 @@ inventive-shut-out f =
     let e : _≡_ {A = ℕ} 1 100 = f sample DfuProtocol.Dfu (7 ∷ []) [] 100 begunPlain (waited ∷ []) refl in
     omega (arith, e)
 
--- BLOCKS WITHOUT ASKING FOR STATUS aren't the whole list: six things happen, and two rounds alone are six
-rounds-long : (t : Bool) (rs : List Round) → 3 * length rs ≤ length (rounds t rs)
+-- each round is four things at least, and the opening four
+rounds-long : (t : Bool) (rs : List Round) → 4 * length rs ≤ length (rounds t rs)
 unfolding rounds
 rounds-long t [] = omega arith
 rounds-long t (r ∷ rs) =
@@ -128,18 +156,66 @@ rounds-long t (r ∷ rs) =
       arith,
       rounds-long t rs,
       length-append (roundOf t r) (rounds t rs),
-      length-append (looks (busyAfter (r .command)) (r .busy)) (sends Request.GetStatus ∷ hears (targetAfter t (r .command)) ∷ []),
+      length-append (looks (busyAfter (r .command)) (r .busy)) (sends Request.GetStatus ∷ hears (targetAfter t (r .command)) (r .last) ∷ []),
     )
 
+opening-long : (st ms last : ℕ) → 4 ≤ length (opening st ms last)
+opening-long st ms last = by (eqb st 10)
+  where
+    by : (b : Bool) → 4 ≤ length (sends Request.GetStatus ∷ hears st ms ∷ (pick b (sends Request.ClearStatus ∷ []) [] ++ (sends Request.GetStatus ∷ hears 2 last ∷ [])))
+    by true = omega arith
+    by false = omega arith
+
+-- so the list of one byte's update, which is two requests, is twelve things and the reset
+list-long : (io : DfuSansIo) (past : List Event) → length (planOf io DfuProtocol.Dfu (7 ∷ []) []) ≡ 2 → Listed io DfuProtocol.Dfu (7 ∷ []) [] past
+    → 12 + length (closing (io .descriptor .«manifestation_tolerant») (io .descriptor .«will_detach»)) ≤ length (inTime past)
+list-long io past two v =
+    let tolerant : Bool = io .descriptor .«manifestation_tolerant» in
+    let shut : List Event = closing tolerant (io .descriptor .«will_detach») in
+    let n : length (v .all) ≡ 2 =
+    sym (length-map (v .all) requestOf) ∙ sym (length-map (map requestOf (v .all)) (onWire (7 ∷ []))) ∙ ap (λ (x : List Dnload). length x) (v .requests) ∙ two in
+    omega (
+      arith,
+      n,
+      ap (λ (x : List Event). length x) (v .events),
+      opening-long (v .shown) (v .first) (v .second),
+      rounds-long tolerant (v .all),
+      length-append (opening (v .shown) (v .first) (v .second)) (rounds tolerant (v .all) ++ shut),
+      length-append (rounds tolerant (v .all)) shut,
+    )
+
+-- BLOCKS WITHOUT ASKING FOR STATUS aren't the whole list: six things happen
 pub blind-shut-out : ListsAll blind → ⊥
 unfolding beginOf begunOf afterBy told onFirst onSecond nextOf writeNext tookOf field littleEndian inTime plan leading blocksFor several blockCount
 blind-shut-out f =
     let v : Listed sample DfuProtocol.Dfu (7 ∷ []) [] _ =
     f sample DfuProtocol.Dfu (7 ∷ []) [] 100 begunPlain (shows 2 ∷ shows 2 ∷ count 1 ∷ count 0 ∷ []) (omega arith) (omega arith) refl tt in
-    let n : length (v .all) ≡ 2 =
-    sym (length-map (v .all) requestOf) ∙ sym (length-map (map requestOf (v .all)) (onWire (7 ∷ []))) ∙ ap (λ (x : List Dnload). length x) (v .requests) in
-    let m : 6 ≡ length (opening (v .shown) ++ rounds true (v .all)) = ap (λ (x : List Event). length x) (v .events) in
-    omega (arith, n, m, rounds-long true (v .all), length-append (opening (v .shown)) (rounds true (v .all)))
+    let n : 12 ≤ 6 = list-long sample _ refl v in
+    omega (arith, n)
+
+-- NEVER WAITING isn't either: ten things happen
+pub restless-shut-out : ListsAll restless → ⊥
+unfolding beginOf begunOf afterBy told onFirst onSecond onPoll nextOf writeNext tookOf field littleEndian inTime plan leading blocksFor several blockCount
+restless-shut-out f =
+    let v : Listed sample DfuProtocol.Dfu (7 ∷ []) [] _ =
+    f sample DfuProtocol.Dfu (7 ∷ []) [] 100 begunPlain (shows 2 ∷ shows 2 ∷ count 1 ∷ shows 5 ∷ count 0 ∷ shows 2 ∷ []) (omega arith) (omega arith) refl tt in
+    let n : 12 ≤ 10 = list-long sample _ refl v in
+    omega (arith, n)
+
+-- NEVER RESETTING isn't: a device that neither stays nor detaches wants the reset after the twelve
+abbrev leaving : DfuSansIo
+leaving = deviceOf false false 8
+
+abbrev begunLeaving : Session
+begunLeaving = mk (setupOf leaving DfuProtocol.Dfu 1 0) (fresh (setupOf leaving DfuProtocol.Dfu 1 0)) 99 Phase.First
+
+pub unreset-shut-out : ListsAll unreset → ⊥
+unfolding beginOf begunOf afterBy told onFirst onSecond onPoll nextOf writeNext tookOf field littleEndian inTime plan leading blocksFor several blockCount
+unreset-shut-out f =
+    let v : Listed leaving DfuProtocol.Dfu (7 ∷ []) [] _ =
+    f leaving DfuProtocol.Dfu (7 ∷ []) [] 100 begunLeaving (shows 2 ∷ shows 2 ∷ round 1 5 (round 0 7 [])) (omega arith) (omega arith) refl tt in
+    let n : 13 ≤ 12 = list-long leaving _ refl v in
+    omega (arith, n)
 
 -- ANY COUNT TAKEN FOR A WHOLE BLOCK: it finishes though the one block was told 0 of its 1 byte
 pub credulous-shut-out : WholeBlocks credulous → ⊥

@@ -27,7 +27,9 @@ adds n w su = record {
   status = λ l h v. one-more n l h _ v;
   clear = λ l h v. one-more n l h _ v;
   wish = λ pr. any-wish n (w .next su pr);
-  hear = λ l h st v. v;
+  hear = λ l h st ms v. v;
+  pause = λ l h ms v. v;
+  resetting = λ l h v. v;
 }
 
 -- one told answer, in any world

@@ -15,7 +15,7 @@ use Rattle.work.specs.Work.{waitAfter, takenb}
 use Rattle.machine.specs.Machine.{refuse, issue, endPhase, proceed, onCount, firstReply, laterReply, reading, onFirst, onSecond, onMet, onPoll, asksAt}
 use Rattle.session.specs.Told.{over, go, stay, toldAt}
 use Rattle.promises.specs.Words.{pick, Command, Request, Setup, Progress, Todo, Wait, End, Error, Work, Phase, Moved, Ask, Step, Answer, count, reply, waited, wasReset, failed, mk, told}
-use Rattle.promises.specs.Run.{Event, sends, hears, sentBy, shownBy, heardAt, World, tell, after, afterBy, Over}
+use Rattle.promises.specs.Run.{Event, sends, hears, waits, resets, sentBy, shownBy, heardAt, World, tell, after, afterBy, Over}
 
 -- what is claimed at each kind of phase: in the opening, where the work is asked next, in a wait before and after a look, at the end, after a refusal;
 -- and whatever happens
@@ -51,7 +51,7 @@ module _ (w : Work) (su : Setup) (c : Claims) where
 
   -- a command is on: once it is taken, with whatever bytes it may be, its wait begins
   abbrev pub SentAt : Command → Progress → ℕ → List Event → Type 0
-  SentAt d pr l h = c .always l h × ((n : ℕ) → takenb d n ≡ true → WaitingAt (waitAfter su d n) (w .took su pr d n) l h)
+  SentAt d pr l h = c .always l h × ((n : ℕ) → takenb d n ≡ true → WaitingAt (waitAfter su d n) (w .took su pr d n) l (sentBy (asksAt (Phase.Waiting (waitAfter su d n))) ++ h))
 
   abbrev pub EndAt : Phase → Progress → ℕ → List Event → Type 0
   EndAt Phase.First pr l h = ⊥
@@ -59,7 +59,7 @@ module _ (w : Work) (su : Setup) (c : Claims) where
   EndAt Phase.Second pr l h = ⊥
   EndAt (Phase.Sent d) pr l h = ⊥
   EndAt (Phase.Waiting x) pr l h = ⊥
-  EndAt Phase.Resetting pr l h = c .resetting pr l h
+  EndAt Phase.Resetting pr l h = c .resetting pr l (resets ∷ h)
   EndAt (Phase.Finished e) pr l h = c .finished e pr l h
   EndAt (Phase.Refused e) pr l h = ⊥
 
@@ -71,14 +71,14 @@ module _ (w : Work) (su : Setup) (c : Claims) where
 
   -- what is asked of the claims: each step of the machine leads from one to the next
   pub record Holds : Type 0 where
-    pub first : (pr : Progress) (l : ℕ) (h : List Event) (st : ℕ) → c .atFirst pr (suc l) h
-        → pick (eqb st 10) (c .atClear pr l (sends Request.ClearStatus ∷ hears st ∷ h)) (c .atSecond pr l (sends Request.GetStatus ∷ hears st ∷ h))
+    pub first : (pr : Progress) (l : ℕ) (h : List Event) (st ms : ℕ) → c .atFirst pr (suc l) h
+        → pick (eqb st 10) (c .atClear pr l (sends Request.ClearStatus ∷ hears st ms ∷ h)) (c .atSecond pr l (sends Request.GetStatus ∷ hears st ms ∷ h))
     pub clear : (pr : Progress) (l : ℕ) (h : List Event) → c .atClear pr (suc l) h → c .atSecond pr l (sends Request.GetStatus ∷ h)
-    pub second : (pr : Progress) (l : ℕ) (h : List Event) → c .atSecond pr l h → c .atWish pr l (hears 2 ∷ h)
+    pub second : (pr : Progress) (l : ℕ) (h : List Event) (ms : ℕ) → c .atSecond pr l h → c .atWish pr l (hears 2 ms ∷ h)
     pub wish : (pr : Progress) (l : ℕ) (h : List Event) → c .atWish pr l h → Wished pr l h (w .next su pr)
     pub look : (b t : State) (pr : Progress) (l : ℕ) (h : List Event) → c .pausing b t pr (suc l) h → c .looking b t pr l (sends Request.GetStatus ∷ h)
-    pub busy : (b t : State) (pr : Progress) (l : ℕ) (h : List Event) → c .looking b t pr l h → c .pausing b t pr l (hears (stateByte b) ∷ h)
-    pub settle : (b t : State) (pr : Progress) (l : ℕ) (h : List Event) → c .looking b t pr l h → c .atWish pr l (hears (stateByte t) ∷ h)
+    pub busy : (b t : State) (pr : Progress) (l : ℕ) (h : List Event) (ms : ℕ) → c .looking b t pr l h → c .pausing b t pr l (waits ms ∷ hears (stateByte b) ms ∷ h)
+    pub settle : (b t : State) (pr : Progress) (l : ℕ) (h : List Event) (ms : ℕ) → c .looking b t pr l h → c .atWish pr l (hears (stateByte t) ms ∷ h)
     pub cutFirst : (pr : Progress) (l : ℕ) (h : List Event) → c .atFirst pr l h → c .always l h
     pub cutClear : (pr : Progress) (l : ℕ) (h : List Event) → c .atClear pr l h → c .always l h
     pub cutSecond : (pr : Progress) (l : ℕ) (h : List Event) → c .atSecond pr l h → c .always l h
@@ -90,7 +90,7 @@ module _ (w : Work) (su : Setup) (c : Claims) where
     pub cutFinished : (e : End) (pr : Progress) (l : ℕ) (h : List Event) → c .finished e pr l h → c .always l h
     pub cutRefused : (e : Error) (l : ℕ) (h : List Event) → c .refused e l h → c .always l h
     pub deny : (e : Error) (l : ℕ) (h : List Event) → Ending e → c .always l h → c .refused e l h
-    pub hear : (l : ℕ) (h : List Event) (st : ℕ) → c .always l h → c .always l (hears st ∷ h)
+    pub hear : (l : ℕ) (h : List Event) (st ms : ℕ) → c .always l h → c .always l (hears st ms ∷ h)
 
   abbrev pub ClaimAt : Phase → Progress → ℕ → List Event → Type 0
   ClaimAt Phase.First pr l h = c .atFirst pr l h
@@ -143,46 +143,46 @@ module _ (w : Work) (su : Setup) (c : Claims) where
 
     -- a reply that is read, and one that can't be
     reading-kept : (pr : Progress) (l : ℕ) (h : List Event) (r : Reply) (f : GetStatusMessage → Moved) → c .always l h
-        → ((m : GetStatusMessage) → Kept (hears (stateByte (m .state)) ∷ h) (go (over su (f m)))) → Kept (shownBy r ++ h) (go (over su (reading pr l r f)))
+        → ((m : GetStatusMessage) → Kept (hears (stateByte (m .state)) (m .«poll_timeout») ∷ h) (go (over su (f m)))) → Kept (shownBy r ++ h) (go (over su (reading pr l r f)))
     reading-kept pr l h (Reply.ResponseTooShort got) f v k = refuse-kept pr l h _ tt v
     reading-kept pr l h (Reply.StatusError status) f v k = refuse-kept pr l h _ tt v
     reading-kept pr l h (Reply.Read m) f v k = k m
 
     first-kept : (pr : Progress) (l : ℕ) (h : List Event) (m : GetStatusMessage) → c .atFirst pr l h
-        → Kept (hears (stateByte (m .state)) ∷ h) (go (over su (onFirst pr l m)))
+        → Kept (hears (stateByte (m .state)) (m .«poll_timeout») ∷ h) (go (over su (onFirst pr l m)))
     unfolding onFirst
-    first-kept pr zero h m v = refuse-kept pr zero _ _ tt (g .hear zero h _ (g .cutFirst pr zero h v))
-    first-kept pr (suc l) h m v = by (eqb (stateByte (m .state)) 10) (g .first pr l h (stateByte (m .state)) v)
+    first-kept pr zero h m v = refuse-kept pr zero _ _ tt (g .hear zero h _ _ (g .cutFirst pr zero h v))
+    first-kept pr (suc l) h m v = by (eqb (stateByte (m .state)) 10) (g .first pr l h (stateByte (m .state)) (m .«poll_timeout») v)
       where
         by : (b : Bool)
-            → pick b (c .atClear pr l (sends Request.ClearStatus ∷ hears (stateByte (m .state)) ∷ h)) (c .atSecond pr l (sends Request.GetStatus ∷ hears (stateByte (m .state)) ∷ h))
-            → Kept (hears (stateByte (m .state)) ∷ h) (go (over su (issue pr (suc l) pr (pick b Phase.Clear Phase.Second))))
+            → pick b (c .atClear pr l (sends Request.ClearStatus ∷ hears (stateByte (m .state)) (m .«poll_timeout») ∷ h)) (c .atSecond pr l (sends Request.GetStatus ∷ hears (stateByte (m .state)) (m .«poll_timeout») ∷ h))
+            → Kept (hears (stateByte (m .state)) (m .«poll_timeout») ∷ h) (go (over su (issue pr (suc l) pr (pick b Phase.Clear Phase.Second))))
         by true v = record { setup = refl; holds = v }
         by false v = record { setup = refl; holds = v }
 
     second-kept : (pr : Progress) (l : ℕ) (h : List Event) (m : GetStatusMessage) → c .atSecond pr l h
-        → Kept (hears (stateByte (m .state)) ∷ h) (go (over su (onSecond pr l (w .next su pr) m)))
+        → Kept (hears (stateByte (m .state)) (m .«poll_timeout») ∷ h) (go (over su (onSecond pr l (w .next su pr) m)))
     unfolding onSecond
     second-kept pr l h m v =
-        picked (λ (s : Moved). Kept (hears (stateByte (m .state)) ∷ h) (go (over su s))) (eqb (stateByte (m .state)) 2) _ _
-        (λ e. wish-kept pr l _ (subst (λ (x : ℕ). c .atWish pr l (hears x ∷ h)) (sym (eqb-true _ _ e)) (g .second pr l h v)))
-        (λ e. refuse-kept pr l _ _ tt (g .hear l h _ (g .cutSecond pr l h v)))
+        picked (λ (s : Moved). Kept (hears (stateByte (m .state)) (m .«poll_timeout») ∷ h) (go (over su s))) (eqb (stateByte (m .state)) 2) _ _
+        (λ e. wish-kept pr l _ (subst (λ (x : ℕ). c .atWish pr l (hears x (m .«poll_timeout») ∷ h)) (sym (eqb-true _ _ e)) (g .second pr l h _ v)))
+        (λ e. refuse-kept pr l _ _ tt (g .hear l h _ _ (g .cutSecond pr l h v)))
 
     poll-kept : (b t : State) (pr : Progress) (l : ℕ) (h : List Event) (m : GetStatusMessage) → c .looking b t pr l h
-        → Kept (hears (stateByte (m .state)) ∷ h) (go (over su (onPoll pr l b t (w .next su pr) m)))
+        → Kept (hears (stateByte (m .state)) (m .«poll_timeout») ∷ h) (go (over su (onPoll pr l b t (w .next su pr) m)))
     unfolding onPoll
     poll-kept b t pr l h m v =
         picked P (eqb (stateByte (m .state)) (stateByte t)) _ _
-        (λ e. wish-kept pr l _ (subst (λ (x : ℕ). c .atWish pr l (hears x ∷ h)) (sym (eqb-true _ _ e)) (g .settle b t pr l h v)))
+        (λ e. wish-kept pr l _ (subst (λ (x : ℕ). c .atWish pr l (hears x (m .«poll_timeout») ∷ h)) (sym (eqb-true _ _ e)) (g .settle b t pr l h _ v)))
         (λ e. picked P (eqb (stateByte (m .state)) (stateByte b)) _ _
-        (λ f. record { setup = refl; holds = subst (λ (x : ℕ). c .pausing b t pr l (hears x ∷ h)) (sym (eqb-true _ _ f)) (g .busy b t pr l h v) })
-        (λ f. refuse-kept pr l _ _ tt (g .hear l h _ (g .cutLooking b t pr l h v))))
+        (λ f. record { setup = refl; holds = subst (λ (x : ℕ). c .pausing b t pr l (waits (m .«poll_timeout») ∷ hears x (m .«poll_timeout») ∷ h)) (sym (eqb-true _ _ f)) (g .busy b t pr l h _ v) })
+        (λ f. refuse-kept pr l _ _ tt (g .hear l h _ _ (g .cutLooking b t pr l h v))))
       where
         P : Met → Type 0
-        P x = Kept (hears (stateByte (m .state)) ∷ h) (go (over su (onMet pr l b t (w .next su pr) x)))
+        P x = Kept (hears (stateByte (m .state)) (m .«poll_timeout») ∷ h) (go (over su (onMet pr l b t (w .next su pr) x)))
 
     -- a count: the wait begins, or the block was not taken whole
-    wait-kept : (pr : Progress) (l : ℕ) (h : List Event) (d : Command) (n : ℕ) → WaitingAt (waitAfter su d n) pr l h → Kept h (go (mk su pr l (Phase.Waiting (waitAfter su d n))))
+    wait-kept : (pr : Progress) (l : ℕ) (h : List Event) (d : Command) (n : ℕ) → WaitingAt (waitAfter su d n) pr l (sentBy (asksAt (Phase.Waiting (waitAfter su d n))) ++ h) → Kept h (go (mk su pr l (Phase.Waiting (waitAfter su d n))))
     wait-kept pr l h (Command.Erase a) n v = record { setup = refl; holds = v }
     wait-kept pr l h (Command.SetAddress a) n v = record { setup = refl; holds = v }
     wait-kept pr l h (Command.Block b f m) n v = record { setup = refl; holds = v }
@@ -282,6 +282,6 @@ module _ (w : Work) (su : Setup) (c : Claims) where
       by (Phase.Refused e) v o = absurd o
 
   -- the two ends, where the same is claimed of both
-  pub either-end : (pr : Progress) (l : ℕ) (h : List Event) (e : End) → c .finished End.Stays pr l h → c .resetting pr l h → EndAt (endPhase e) pr l h
+  pub either-end : (pr : Progress) (l : ℕ) (h : List Event) (e : End) → c .finished End.Stays pr l h → c .resetting pr l (resets ∷ h) → EndAt (endPhase e) pr l h
   either-end pr l h End.Stays f r = f
   either-end pr l h End.Reset f r = r

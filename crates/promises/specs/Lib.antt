@@ -9,3 +9,4 @@ pub mod Finish
 pub mod Machines
 pub mod Samples
 pub mod Starred
+pub mod Refusals

@@ -9,12 +9,12 @@ use Rattle.work.specs.Work.{wholeOf}
 use Rattle.download.specs.Download.{eraseNext, nextOf, tookOf}
 use Rattle.machine.specs.Machine.{proceed}
 use Rattle.session.specs.Told.{over, go, stay}
-use Rattle.start.specs.Start.{beginOf}
+use Rattle.start.specs.Start.{beginOf, saidStarted}
 use Rattle.start.specs.declared.Started.{Started}
 use Rattle.start.specs.declared.StartError.{StartError}
 use Rattle.plan.specs.Sent.{onWire, planOf}
 use Rattle.promises.specs.Words.{pick, DfuProtocol, Command, Request, Setup, Progress, Stage, Todo, End, Error, download, Phase, Ask, Session, Step, Answer, count, reply, waited, wasReset, failed, mk, told, DfuSansIo}
-use Rattle.promises.specs.Run.{opened, afterBy, transfers, commanded, cleared, Over}
+use Rattle.promises.specs.Run.{opened, after, afterBy, transfers, commanded, cleared, Over}
 use Rattle.promises.specs.Whole.{Listed}
 use Rattle.promises.specs.Fair.{heededBy, FairBy, Ready, requestsOf, bound}
 use Rattle.promises.specs.Finish.{FinishesBy}
@@ -44,6 +44,16 @@ LeadsThePlan m =
     (io : DfuSansIo) (p : DfuProtocol) (fw ps : List ℕ) (budget : ℕ) (s : Session) (more : List Answer)
     → 0 < length fw → 0 < io .descriptor .«transfer_size» → Began m io p fw ps budget s
     → (rest : List Dnload) × (map (onWire fw) (commanded ((afterBy (m .told ps) (opened s) more) .past)) ++ rest ≡ planOf io p fw ps)
+
+-- the transfers of every run, whatever is told, are those of the definition, which the comparison with the Rust runs
+abbrev pub RequestsAll : Machine → Type 0
+RequestsAll m =
+    (io : DfuSansIo) (p : DfuProtocol) (fw ps : List ℕ) (budget : ℕ) (s : Session) (more : List Answer) → Began m io p fw ps budget s
+    → transfers ((afterBy (m .told ps) (opened s) more) .past) ≡ transfers ((after (download ps) (opened s) more) .past)
+
+-- start is refused exactly when document 01 says, under its number
+abbrev pub RefusesExactly : Machine → Type 0
+RefusesExactly m = (io : DfuSansIo) (p : DfuProtocol) (n pages budget : ℕ) → saidStarted (m .start io p n pages budget) ≡ saidStarted (beginOf io p n pages budget)
 
 -- 3: all that happens in a finished run
 abbrev pub ListsAll : Machine → Type 0
@@ -120,6 +130,26 @@ blind = record {
   start = beginOf;
   told = λ ps s a. countBy ps (λ c. go (atOnce ps (s .setup) (s .left) (tookOf (s .setup) (s .progress) c))) s (s .phase) a;
 }
+
+-- never waiting: where a pause is asked for it is told over at once
+abbrev pub awake : List ℕ → Session → Ask → Step
+awake ps s (Ask.Transfer q) = record { next = s; says = Ask.Transfer q }
+awake ps s (Ask.Wait ms) = told (download ps) s waited
+awake ps s Ask.Reset = record { next = s; says = Ask.Reset }
+awake ps s (Ask.Finished e) = record { next = s; says = Ask.Finished e }
+awake ps s (Ask.Refused e) = record { next = s; says = Ask.Refused e }
+
+abbrev pub restless : Machine
+restless = record { start = beginOf; told = λ ps s a. awake ps ((told (download ps) s a) .next) ((told (download ps) s a) .says) }
+
+-- never resetting: every device stays
+abbrev pub staying : Todo → Todo
+staying (Todo.Send c then) = Todo.Send c then
+staying (Todo.End e) = Todo.End End.Stays
+staying (Todo.Refuse e) = Todo.Refuse e
+
+abbrev pub unreset : Machine
+unreset = record { start = beginOf; told = λ ps s a. told (record { next = λ su pr. staying (nextOf ps su pr); took = λ su pr c n. tookOf su pr c }) s a }
 
 -- any count taken for a whole block
 abbrev pub credulous : Machine

@@ -7,24 +7,26 @@ use Rattle.get_status.specs.declared.Reply.{Reply}
 use Rattle.machine.specs.Machine.{firstReply, laterReply, asksAt}
 use Rattle.promises.specs.Words.{Command, Request, Wait, Work, Phase, Ask, Session, Step, Answer, count, reply, waited, wasReset, failed, told}
 
--- what happens: a transfer is issued, an awaited reply shows a state
+-- what happens: a transfer is issued; an awaited reply shows a state and its milliseconds; the host is asked to wait so many, or for the USB reset
 pub data Event : Type 0 where
   sends : Request → Event
-  hears : ℕ → Event
+  hears : ℕ → ℕ → Event
+  waits : ℕ → Event
+  resets : Event
 
--- the transfer that an answer issues, if it issues one
+-- what an answer has the host do
 abbrev pub sentBy : Ask → List Event
 sentBy (Ask.Transfer q) = sends q ∷ []
-sentBy (Ask.Wait ms) = []
-sentBy Ask.Reset = []
+sentBy (Ask.Wait ms) = waits ms ∷ []
+sentBy Ask.Reset = resets ∷ []
 sentBy (Ask.Finished e) = []
 sentBy (Ask.Refused e) = []
 
--- the state that a reply shows, if it is read
+-- what a reply shows, if it is read
 abbrev pub shownBy : Reply → List Event
 shownBy (Reply.ResponseTooShort got) = []
 shownBy (Reply.StatusError status) = []
-shownBy (Reply.Read m) = hears (stateByte (m .state)) ∷ []
+shownBy (Reply.Read m) = hears (stateByte (m .state)) (m .«poll_timeout») ∷ []
 
 abbrev pub shownFirst : Answer → List Event
 shownFirst (count n) = []
@@ -87,14 +89,18 @@ inTime (e ∷ past) = inTime past ++ (e ∷ [])
 unfoldable pub transfers : List Event → List Request
 transfers [] = []
 transfers (sends q ∷ past) = transfers past ++ (q ∷ [])
-transfers (hears st ∷ past) = transfers past
+transfers (hears st ms ∷ past) = transfers past
+transfers (waits ms ∷ past) = transfers past
+transfers (resets ∷ past) = transfers past
 
 unfoldable pub commanded : List Event → List Command
 commanded [] = []
 commanded (sends Request.GetStatus ∷ past) = commanded past
 commanded (sends Request.ClearStatus ∷ past) = commanded past
 commanded (sends (Request.Command c) ∷ past) = commanded past ++ (c ∷ [])
-commanded (hears st ∷ past) = commanded past
+commanded (hears st ms ∷ past) = commanded past
+commanded (waits ms ∷ past) = commanded past
+commanded (resets ∷ past) = commanded past
 
 -- the clears that were sent
 unfoldable pub cleared : List Event → ℕ
@@ -102,7 +108,9 @@ cleared [] = 0
 cleared (sends Request.GetStatus ∷ past) = cleared past
 cleared (sends Request.ClearStatus ∷ past) = suc (cleared past)
 cleared (sends (Request.Command c) ∷ past) = cleared past
-cleared (hears st ∷ past) = cleared past
+cleared (hears st ms ∷ past) = cleared past
+cleared (waits ms ∷ past) = cleared past
+cleared (resets ∷ past) = cleared past
 
 -- a session that is not refused; one that is finished
 abbrev pub Unrefused : Phase → Type 0

@@ -2,3 +2,4 @@ pub mod Cuts
 pub mod Strings
 pub mod Published
 pub mod Pinned
+pub mod Detaching
