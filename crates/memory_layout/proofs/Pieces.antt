@@ -9,8 +9,8 @@ use lib.ListN.{length, take, drop, getD, length-drop}
 use lib.Seq.{length-take-le, getD-drop}
 use borrow.Author.Tests.{eq-eqb, ne-eqb, lt-ltb, le-ltb}
 use Rattle.ground.proofs.Tests.{picked}
-use Rattle.number.specs.Number.{numberOf}
-use Rattle.number.specs.declared.Number.{Number}
+use Rattle.numeral.specs.Number.{numberOf}
+use Rattle.numeral.specs.declared.Number.{Number}
 use Rattle.memory_layout.specs.Layout.{factorOf, scaled, starred}
 use Rattle.memory_layout.specs.declared.Error.{Error}
 use Rattle.memory_layout.specs.declared.Piece.{Piece}

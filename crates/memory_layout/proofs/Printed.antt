@@ -9,8 +9,8 @@ use lib.ListN.{length, replicate, length-append, length-replicate}
 use lib.Seq.{take-append-seam, getD-append-seam, drop-append-add}
 use borrow.Author.Tests.{eq-eqb, ne-eqb, le-ltb}
 use Rattle.ground.proofs.Lists.{Without}
-use Rattle.number.specs.Number.{numberOf}
-use Rattle.number.specs.declared.Number.{Number}
+use Rattle.numeral.specs.Number.{numberOf}
+use Rattle.numeral.specs.declared.Number.{Number}
 use Rattle.memory_layout.specs.Layout.{maxPages, maxText, upTo, split, factorOf, starred, pieceOf, pieces, checked, sizes}
 use Rattle.memory_layout.specs.declared.Piece.{Piece}
 use Rattle.memory_layout.specs.declared.MemoryLayout.{MemoryLayout}

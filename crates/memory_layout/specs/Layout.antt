@@ -5,8 +5,8 @@ use lib.ListN.{length, take, drop, getD, replicate}
 use lib.Dec.{eqb, ltb}
 use Rattle.ground.specs.Pick.{pick}
 use Rattle.ground.specs.Said.{Said, says}
-use Rattle.number.specs.Number.{numberOf}
-use Rattle.number.specs.declared.Number.{Number}
+use Rattle.numeral.specs.Number.{numberOf}
+use Rattle.numeral.specs.declared.Number.{Number}
 use Rattle.memory_layout.specs.declared.Error.{Error}
 use Rattle.memory_layout.specs.declared.Piece.{Piece}
 use Rattle.memory_layout.specs.declared.MemoryLayout.{MemoryLayout}

@@ -5,7 +5,7 @@ ghost use mathlib.Core.List.{_++_};
 ghost use lib.ListN.{length, take, drop, replicate};
 ghost use lib.Seq.{paste};
 ghost use Rattle.memory_layout.specs.Layout.{endOf, factorOf, scaled, starred, split, pieces, sizes, maxPages, checked, done, layoutOf};
-use number::Number;
+use numeral::Number;
 
 // The most pages that a layout may have.
 pub const MAX_PAGES: usize = 4096;
@@ -108,11 +108,11 @@ fn read_piece(p: &[u8], star: usize, at: usize) -> Piece
         });
     }
     let unit = p.len() - 2;
-    let count = number::decimal(&p[..star]);
+    let count = numeral::decimal(&p[..star]);
     let Number::Value(count) = count else {
         return Piece::Fault(Error::ParseErrorPageCount { at, len: star });
     };
-    let size = number::decimal(&p[from..unit]);
+    let size = numeral::decimal(&p[from..unit]);
     let Number::Value(size) = size else {
         return Piece::Fault(Error::ParseErrorPageSize {
             at: at + from,

@@ -4,7 +4,7 @@ use mathlib.Core.List.{map}
 use Rattle.ground.specs.Text.{codes}
 use Rattle.ground.specs.Bytes.{littleEndian, field, prefix}
 use Rattle.papers.specs.Crc.{shifted, eight, crc}
-use Rattle.number.specs.Number.{readOn, numberOf}
+use Rattle.numeral.specs.Number.{readOn, numberOf}
 use Rattle.memory_layout.specs.Layout.{upTo, endOf, split, scaled, starred, pieceOf, pieces, checked}
 use Rattle.protocol.specs.Interface.{rsplit, addressOf, dfuseOf, interfaceOf}
 use Rattle.work.specs.Work.{blockCount}

@@ -13,8 +13,8 @@ use borrow.Author.Tests.{lt-ltb, le-ltb, le-leb, lt-leb, ne-eqb}
 use Rattle.ground.specs.Bytes.{prefix}
 use Rattle.ground.proofs.Lists.{Without, without-both}
 use Rattle.ground.proofs.Tests.{lt-or-ge}
-use Rattle.number.specs.Number.{digitOf, readOn, numberOf}
-use Rattle.number.proofs.Reading.{go-on, unsigned}
+use Rattle.numeral.specs.Number.{digitOf, readOn, numberOf}
+use Rattle.numeral.proofs.Reading.{go-on, unsigned}
 use Rattle.memory_layout.specs.Layout.{maxPages, maxText, split, factorOf, pieceOf}
 use Rattle.memory_layout.proofs.Printed.{alone, first, piece, Announces, nothing, more, accepts}
 use Rattle.protocol.specs.Interface.{whole, cut, rsplit, addressOf, done, dfuseOf, interfaceOf}
@@ -37,7 +37,7 @@ use Rattle.papers.specs.Um0424.{
   allPages,
   Printable,
 }
-use Rattle.number.specs.declared.Number.{Number}
+use Rattle.numeral.specs.declared.Number.{Number}
 use Rattle.memory_layout.specs.declared.Piece.{Piece}
 use Rattle.protocol.specs.declared.DfuProtocol.{DfuProtocol}
 use Rattle.protocol.specs.declared.Interface.{Interface}

@@ -6,7 +6,7 @@ use mathlib.Core.Bool.{true, false}
 use lib.ListN.{length, take, drop}
 use Rattle.ground.specs.Bytes.{prefix}
 use Rattle.ground.proofs.Lists.{onwards}
-use Rattle.number.specs.Number.{numberOf}
+use Rattle.numeral.specs.Number.{numberOf}
 use Rattle.memory_layout.specs.Layout as layout
 use Rattle.memory_layout.specs.declared.Error.{Error as LayoutFault}
 use Rattle.memory_layout.specs.declared.MemoryLayout.{MemoryLayout}

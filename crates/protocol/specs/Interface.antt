@@ -7,8 +7,8 @@ use Rattle.ground.specs.Pick.{pick}
 use Rattle.ground.specs.Said.{Said, says}
 use Rattle.ground.specs.Bytes.{prefix}
 use Rattle.ground.specs.declared.Version.{Version}
-use Rattle.number.specs.Number.{numberOf}
-use Rattle.number.specs.declared.Number.{Number}
+use Rattle.numeral.specs.Number.{numberOf}
+use Rattle.numeral.specs.declared.Number.{Number}
 use Rattle.memory_layout.specs.Layout.{maxText, checked, storedBy, saidError}
 use Rattle.memory_layout.specs.declared.MemoryLayout.{MemoryLayout}
 use Rattle.protocol.specs.declared.DfuProtocol.{DfuProtocol}

@@ -4,7 +4,7 @@ ghost use Rattle.protocol.specs.Interface.{placeOf, rsplit, addressOf, d
 use ground::Version;
 use memory_layout::MAX_TEXT;
 use memory_layout::MemoryLayout;
-use number::Number;
+use numeral::Number;
 
 // The protocol in use. DfuSe's pages stand in the store that was lent for them.
 pub enum DfuProtocol {
@@ -77,7 +77,7 @@ fn address_in(rest: &[u8]) -> Address
     if !ground::starts_with(text, b"0x") {
         return Address::Bad;
     }
-    let value = number::hex(&text[2..]);
+    let value = numeral::hex(&text[2..]);
     match value {
         Number::Value(v) => Address::At(v),
         Number::Bad => Address::Bad,

@@ -1,6 +1,6 @@
 // The words that the program is started with.
 use crate::print;
-use number::Number;
+use numeral::Number;
 
 // What the words ask for.
 pub struct Words {
@@ -103,12 +103,12 @@ fn option(words: Words, word: &[u8]) -> Words {
 // A number below 2^32, decimal or hexadecimal.
 fn number_of(word: &[u8]) -> Number {
     if word.len() < 2 {
-        return number::decimal(word);
+        return numeral::decimal(word);
     }
     if ground::starts_with(word, b"0x") {
-        return number::hex(&word[2..]);
+        return numeral::hex(&word[2..]);
     }
-    number::decimal(word)
+    numeral::decimal(word)
 }
 
 // The number of --address.
@@ -128,7 +128,7 @@ fn address(words: Words, word: &[u8]) -> Words {
 
 // The number of --busy.
 fn busy(words: Words, word: &[u8]) -> Words {
-    let read = number::decimal(word);
+    let read = numeral::decimal(word);
     match read {
         Number::Value(value) => {
             let mut next = words;
@@ -143,7 +143,7 @@ fn busy(words: Words, word: &[u8]) -> Words {
 // SIZE
 fn size(words: Words, word: &[u8]) -> Words {
     let why = b"is no transfer size from 0 to 65535";
-    let read = number::decimal(word);
+    let read = numeral::decimal(word);
     match read {
         Number::Value(value) => {
             if 65535 < value {

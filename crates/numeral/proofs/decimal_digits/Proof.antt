@@ -2,9 +2,9 @@
 use mathlib.Core.Path.{sym, _∙_}
 use native.Mathlib.Omega.{arith}
 use borrow.Author.Needs.{needs}
-use Rattle.number.proofs.Decimals.{eleven}
-use Rattle.number.proofs.decimal_digits.Statement.{statement}
-use Rattle.number.proofs.decimal_digits.Tie as tie
+use Rattle.numeral.proofs.Decimals.{eleven}
+use Rattle.numeral.proofs.decimal_digits.Statement.{statement}
+use Rattle.numeral.proofs.decimal_digits.Tie as tie
 
 past-zeros-requires : tie.Need-past-zeros-requires
 past-zeros-requires c κs = search needs

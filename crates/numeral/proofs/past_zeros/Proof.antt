@@ -3,10 +3,10 @@ use lib.ListN.{length, drop, List·getD-eq-default}
 use native.Mathlib.Omega.{arith}
 use mathlib.Core.Path.{_≡_, refl, sym, _∙_}
 use Prim.Native.Nat.{_≤_, _-_}
-use Rattle.number.specs.Number.{readOn}
-use Rattle.number.proofs.Decimals.{leading}
-use Rattle.number.proofs.past_zeros.Statement.{statement}
-use Rattle.number.proofs.past_zeros.Tie as tie
+use Rattle.numeral.specs.Number.{readOn}
+use Rattle.numeral.proofs.Decimals.{leading}
+use Rattle.numeral.proofs.past_zeros.Statement.{statement}
+use Rattle.numeral.proofs.past_zeros.Tie as tie
 
 abbrev Inv-loop : tie.InvT-loop
 Inv-loop s from i₀ i = (i ≤ length s) × (readOn 10 (drop i s) 0 ≡ readOn 10 (drop from s) 0)

@@ -3,7 +3,7 @@ use Prim.Native.Nat.{ℕ, _+_, _-_, _*_}
 use mathlib.Core.List.{List, [], _∷_}
 use lib.Dec.{eqb, ltb, leb}
 use Rattle.ground.specs.Pick.{pick}
-use Rattle.number.specs.declared.Number.{Number}
+use Rattle.numeral.specs.declared.Number.{Number}
 
 -- a byte's value as a digit: 0 to 9, A to F, a to f; 99 for no digit
 abbrev pub digitOf : ℕ → ℕ

@@ -3,10 +3,10 @@ use lib.ListN.{length, drop}
 use native.Mathlib.Omega.{arith}
 use mathlib.Core.Path.{_≡_, refl, sym, _∙_}
 use Prim.Native.Nat.{_<_, _-_}
-use Rattle.number.specs.Number.{readOn}
-use Rattle.number.proofs.Reading.{at-end, bad-digit, bad-value, go-on, room}
-use Rattle.number.proofs.digits.Statement.{statement}
-use Rattle.number.proofs.digits.Tie as tie
+use Rattle.numeral.specs.Number.{readOn}
+use Rattle.numeral.proofs.Reading.{at-end, bad-digit, bad-value, go-on, room}
+use Rattle.numeral.proofs.digits.Statement.{statement}
+use Rattle.numeral.proofs.digits.Tie as tie
 
 abbrev Inv-loop : tie.InvT-loop
 Inv-loop s from base v₀ i₀ v i = (v < 4294967296) × (readOn base (drop i s) v ≡ readOn base (drop from s) 0)

@@ -2,7 +2,7 @@
 ghost use mathlib.Core.Path.{_≡_};
 ghost use Prim.Native.Nat.{_+_, _≤_};
 ghost use lib.ListN.{length, drop, getD};
-ghost use Rattle.number.specs.Number.{digitOf, readOn, numberOf};
+ghost use Rattle.numeral.specs.Number.{digitOf, readOn, numberOf};
 
 pub enum Number {
     Value(u32),

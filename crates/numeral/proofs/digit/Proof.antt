@@ -1,8 +1,8 @@
 -- `digit` meets its contract: the tests are those of the definition.
 use borrow.Author.Needs.{needs}
 use borrow.Author.Tests.{lt-ltb, le-ltb, le-leb, lt-leb}
-use Rattle.number.proofs.digit.Statement.{statement}
-use Rattle.number.proofs.digit.Tie as tie
+use Rattle.numeral.proofs.digit.Statement.{statement}
+use Rattle.numeral.proofs.digit.Tie as tie
 
 cast-result : tie.Need-cast-result
 cast-result c = search needs

@@ -4,10 +4,10 @@ use lib.ListN.{length, drop}
 use native.Mathlib.Omega.{arith}
 use mathlib.Core.Path.{_≡_, sym, _∙_}
 use Prim.Native.Nat.{_<_, _≤_, _-_, _^_}
-use Rattle.number.specs.Number.{readOn}
-use Rattle.number.proofs.Decimals.{late, over, same, no-digit, next, ended, none, more, room}
-use Rattle.number.proofs.few_digits.Statement.{statement}
-use Rattle.number.proofs.few_digits.Tie as tie
+use Rattle.numeral.specs.Number.{readOn}
+use Rattle.numeral.proofs.Decimals.{late, over, same, no-digit, next, ended, none, more, room}
+use Rattle.numeral.proofs.few_digits.Statement.{statement}
+use Rattle.numeral.proofs.few_digits.Tie as tie
 
 abbrev Inv-loop : tie.InvT-loop
 Inv-loop s from v₀ i₀ v i = (from ≤ i) × (v < 10 ^ (i - from)) × (late (drop i s) v ≡ readOn 10 (drop from s) 0)

@@ -2,9 +2,9 @@
 use mathlib.Core.Path.{sym, _∙_}
 use native.Mathlib.Omega.{arith}
 use borrow.Author.Needs.{needs}
-use Rattle.number.proofs.Reading.{num-empty, num-plus-only, num-plus, num-bare}
-use Rattle.number.proofs.decimal.Statement.{statement}
-use Rattle.number.proofs.decimal.Tie as tie
+use Rattle.numeral.proofs.Reading.{num-empty, num-plus-only, num-plus, num-bare}
+use Rattle.numeral.proofs.decimal.Statement.{statement}
+use Rattle.numeral.proofs.decimal.Tie as tie
 
 returns : tie.Need-returns
 returns c = simp (num-empty 10 (c .before .before .args .s .now) (omega arith))

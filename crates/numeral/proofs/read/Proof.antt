@@ -1,9 +1,9 @@
 -- `read` meets its contract: the four ways of `numberOf`.
 use borrow.Author.Needs.{needs}
 use mathlib.Core.Path.{sym, _∙_}
-use Rattle.number.proofs.Reading.{num-empty, num-plus-only, num-plus, num-bare}
-use Rattle.number.proofs.read.Statement.{statement}
-use Rattle.number.proofs.read.Tie as tie
+use Rattle.numeral.proofs.Reading.{num-empty, num-plus-only, num-plus, num-bare}
+use Rattle.numeral.proofs.read.Statement.{statement}
+use Rattle.numeral.proofs.read.Tie as tie
 
 returns : tie.Need-returns
 returns c = sym (num-empty _ _ (c .if1 .taken))

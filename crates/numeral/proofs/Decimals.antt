@@ -12,9 +12,9 @@ use lib.Seq.{drop-cons}
 use borrow.Author.Tests.{le-leb, lt-leb, lt-ltb, le-ltb, ltb-false}
 use Rattle.ground.specs.Pick.{pick}
 use Rattle.ground.proofs.Tests.{lt-or-ge, above, picked}
-use Rattle.number.specs.declared.Number.{Number}
-use Rattle.number.specs.Number.{digitOf, readOn}
-use Rattle.number.proofs.Reading.{go-on}
+use Rattle.numeral.specs.declared.Number.{Number}
+use Rattle.numeral.specs.Number.{digitOf, readOn}
+use Rattle.numeral.proofs.Reading.{go-on}
 
 -- digits to the end, after a value v, with the value tested at the end alone
 unfoldable pub late : List ℕ → ℕ → Number

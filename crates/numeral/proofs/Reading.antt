@@ -11,8 +11,8 @@ use lib.Seq.{drop-cons}
 use borrow.Author.Tests.{le-leb, lt-leb, lt-ltb, le-ltb, eq-eqb, ne-eqb}
 use Rattle.ground.specs.Pick.{pick}
 use Rattle.ground.proofs.Lists.{Without}
-use Rattle.number.specs.Number.{digitOf, readOn, numberOf}
-use Rattle.number.specs.declared.Number.{Number}
+use Rattle.numeral.specs.Number.{digitOf, readOn, numberOf}
+use Rattle.numeral.specs.declared.Number.{Number}
 
 pub at-end : (b : ℕ) (s : List ℕ) (i v : ℕ) → length s ≤ i → readOn b (drop i s) v ≡ Number.Value v
 unfolding readOn
