@@ -1,5 +1,5 @@
 -- Any work that thrives finishes, with a fair device and the budget. Assumes nothing.
-use Prim.Native.Nat.{ℕ, suc, _+_, _-_, _*_, _≤_}
+use Prim.Native.Nat.{ℕ, suc, _+_, _*_, _≤_}
 use native.Mathlib.Omega.{arith}
 use mathlib.Core.Path.{_≡_, ap, sym, subst}
 use mathlib.Core.List.{List}

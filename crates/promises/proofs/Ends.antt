@@ -7,7 +7,7 @@ use lib.ListN.{length, getD}
 use Rattle.ground.proofs.Tests.{picked}
 use Rattle.work.specs.Work.{limit, endOf}
 use Rattle.download.specs.Download.{endFor, eraseNext, writeNext, nextAt, nextOf}
-use Rattle.promises.specs.Words.{Setup, Progress, Stage, Todo, End, Work, download, Phase, Answer, mk}
+use Rattle.promises.specs.Words.{Setup, Progress, Stage, Todo, End, Work, Phase, Answer, mk}
 use Rattle.promises.specs.Run.{opened, after, Over}
 use Rattle.promises.specs.Finish.{EndsAs}
 use Rattle.promises.proofs.Walk.{Claims, Holds, run-over}
