@@ -40,6 +40,8 @@ use Rattle.cases.proofs.output.pages.Kinds as pages-kinds
 use Rattle.cases.proofs.output.pages.Reads as pages-reads
 use Rattle.cases.proofs.output.refused.Kinds as refused-kinds
 use Rattle.cases.proofs.output.refused.Reads as refused-reads
+use Rattle.cases.proofs.output.said.Kinds as said-kinds
+use Rattle.cases.proofs.output.said.Reads as said-reads
 use Rattle.cases.proofs.output.hex.Kinds as hex-written-kinds
 use Rattle.cases.proofs.output.hex.Reads as hex-written-reads
 use Rattle.cases.proofs.output.line_end.Kinds as line-end-kinds
@@ -92,6 +94,9 @@ pinned-pages κs a x y s t p q = p ∙ sym q
 
 pub pinned-refused : Pins refused-kinds.ps refused-kinds.r {R = ℕ} refused-reads.Post (λ κs r s. filled (now (s .0)) r)
 pinned-refused κs a x y s t p q = p ∙ sym q
+
+pub pinned-said : Pins said-kinds.ps said-kinds.r {R = ℕ} said-reads.Post (λ κs r s. filled (now (s .0)) r)
+pinned-said κs a x y s t p q = p ∙ sym q
 
 pub pinned-hex-written : Pins hex-written-kinds.ps hex-written-kinds.r {R = ℕ} hex-written-reads.Post (λ κs r s. filled (now (s .0)) r)
 pinned-hex-written κs a x y s t p q = p ∙ sym q

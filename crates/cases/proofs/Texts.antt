@@ -1,13 +1,13 @@
 -- Laws of the texts of words: pages, refusals and HEX. Assumes nothing.
 use Prim.Native.Nat.{ℕ, _+_, _<_, _≤_}
 use mathlib.Core.Path.{_≡_, refl, sym, ap, _∙_}
-use mathlib.Core.List.{List, [], _∷_, _++_, append-nil}
+use mathlib.Core.List.{List, [], _∷_, _++_}
 use native.Mathlib.Omega.{arith}
 use lib.ListN.{length, take, drop, getD, length-take}
 use lib.Seq.{getD-take}
 use Rattle.ground.specs.Text.{codes}
-use Rattle.cases.specs.declared.output.Refusal.{Refusal}
-use Rattle.cases.specs.Output.{Filled, put, puts, joined, valueText, pagesText, refusalOf, refusedText, pairText, hexText}
+use Rattle.ground.specs.declared.Report.{Report}
+use Rattle.cases.specs.Output.{Filled, put, puts, joined, valueText, pagesText, countedOf, refusedText, pairText, hexText}
 use Rattle.cases.proofs.Puts.{both, each, all}
 
 -- how many pages there are, a page, and the end
@@ -24,16 +24,13 @@ paged f g pages n i w h k e q =
 pub ended : (f : Filled) (pages : List ℕ) (n i : ℕ) → length (take n pages) ≤ i → f ≡ puts f (joined valueText (drop i (take n pages)))
 ended f pages n i h = sym (all valueText f (take n pages) i h)
 
--- a refusal: its word, and its numbers
-pub refuses : (f g h : Filled) (r : Refusal) (vs : List ℕ) → refusalOf r ≡ vs → g ≡ puts f (codes " refused") → h ≡ puts g (joined valueText vs) → h ≡ puts f (refusedText r)
-unfolding refusedText
-refuses f g h r vs e p q =
-    q ∙ ap (λ (t : Filled). puts t (joined valueText vs)) p ∙ sym (both f (codes " refused") (joined valueText vs))
-    ∙ ap (λ (t : List ℕ). puts f (codes " refused" ++ joined valueText t)) (sym e)
-
-pub alone : (f h : Filled) (x : ℕ) → h ≡ puts f (valueText x) → h ≡ puts f (joined valueText (x ∷ []))
-unfolding joined
-alone f h x e = e ∙ ap (puts f) (sym (append-nil (valueText x)))
+-- a refusal: its word, its number and its values
+pub refuses : (f g h k : Filled) (r : Report) → g ≡ puts f (codes " refused") → h ≡ puts g (valueText (r .number)) → k ≡ puts h (joined valueText (countedOf r)) → k ≡ puts f (refusedText r)
+unfolding refusedText joined
+refuses f g h k r p q t =
+    t ∙ ap (λ (u : Filled). puts u (joined valueText (countedOf r))) (q ∙ ap (λ (u : Filled). puts u (valueText (r .number))) p)
+    ∙ sym (both (puts f (codes " refused")) (valueText (r .number)) (joined valueText (countedOf r)))
+    ∙ sym (both f (codes " refused") (valueText (r .number) ++ joined valueText (countedOf r)))
 
 -- HEX of no bytes, and of some
 pub hyphen : (f h : Filled) (bs : List ℕ) → length bs ≡ 0 → h ≡ puts f (codes " -") → h ≡ puts f (hexText bs)

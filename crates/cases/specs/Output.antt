@@ -1,11 +1,11 @@
 -- What stands in the transcript's buffer after a text was put behind its first bytes, and the text of each kind of word: docs/CASES.md.
 use Prim.Native.Nat.{ℕ, zero, suc, _+_, _-_, _/_, _%_}
 use mathlib.Core.List.{List, [], _∷_, _++_}
-use lib.Dec.{ltb}
+use lib.Dec.{eqb, ltb}
 use lib.ListN.{length, take, set}
 use Rattle.ground.specs.Pick.{pick}
 use Rattle.ground.specs.Text.{codes}
-use Rattle.cases.specs.declared.output.Refusal.{Refusal}
+use Rattle.ground.specs.declared.Report.{Report}
 
 -- a buffer, and how many bytes it holds
 pub record Filled : Type 0 where
@@ -49,14 +49,17 @@ valuesText xs = joined valueText xs
 unfoldable pub pagesText : List ℕ → ℕ → List ℕ
 pagesText pages n = valuesText (n ∷ take n pages)
 
--- the words of a refusal
-abbrev pub refusalOf : Refusal → List ℕ
-refusalOf (Refusal.Plain x) = x ∷ []
-refusalOf (Refusal.One x a) = x ∷ a ∷ []
-refusalOf (Refusal.Two x a b) = x ∷ a ∷ b ∷ []
+-- the values of an answer: of its eight places those that count
+abbrev pub countedOf : Report → List ℕ
+countedOf r = take (r .count) (r .values)
 
-unfoldable pub refusedText : Refusal → List ℕ
-refusedText r = codes " refused" ++ valuesText (refusalOf r)
+-- the words of a refusal: its number, and its values
+unfoldable pub refusedText : Report → List ℕ
+refusedText r = codes " refused" ++ valuesText (r .number ∷ countedOf r)
+
+-- the words of an answer: a refusal's, or the values alone
+abbrev pub saidText : Report → List ℕ
+saidText r = pick (eqb (r .number) 0) (valuesText (countedOf r)) (refusedText r)
 
 -- the digit of a value below 16
 abbrev pub hexDigit : ℕ → ℕ

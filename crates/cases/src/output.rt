@@ -3,16 +3,11 @@
 // is written out has left the program, and no contract can speak of it.
 ghost use mathlib.Core.Path.{_≡_};
 ghost use mathlib.Core.List.{[], _∷_};
+ghost use lib.ListN.{take};
 ghost use Rattle.ground.specs.Text.{codes};
-ghost use Rattle.cases.specs.Output.{filled, put, puts, valueText, valuesText, pagesText, refusedText, hexDigit, pairText, pairsText, hexText};
+ghost use Rattle.cases.specs.Output.{filled, put, puts, valueText, valuesText, pagesText, countedOf, refusedText, saidText, hexDigit, pairText, pairsText, hexText};
+use ground::Report;
 use libc::STDOUT_FILENO;
-
-// A refusal: its number, and the values that it carries.
-pub enum Refusal {
-    Plain(u64),
-    One(u64, u64),
-    Two(u64, u64, u64),
-}
 
 // Writes out what the buffer holds: nothing of that can be seen in the program.
 pub fn flush(out: &[u8], at: usize) {
@@ -95,16 +90,39 @@ pub fn pages(out: &mut [u8], at: usize, store: &[u32], n: usize) -> usize
     at
 }
 
+// A word for each of the first n numbers.
+fn first(out: &mut [u8], at: usize, xs: &[u64], n: usize) -> usize
+    ensures { λ r. ⌜ filled (now (out .exit)) r ≡ puts (filled (now (out .entry)) at) (valuesText (take n (now (xs .entry)))) ⌝ }
+{
+    let n = ground::least(n, xs.len());
+    values(out, at, &xs[..n])
+}
+
+// The values of an answer.
+fn counted(out: &mut [u8], at: usize, said: Report) -> usize
+    ensures { λ r. ⌜ filled (now (out .exit)) r ≡ puts (filled (now (out .entry)) at) (valuesText (countedOf said)) ⌝ }
+{
+    let places = said.values;
+    first(out, at, &places, said.count)
+}
+
 // The words of a refusal.
-pub fn refused(out: &mut [u8], at: usize, refusal: Refusal) -> usize
-    ensures { λ r. ⌜ filled (now (out .exit)) r ≡ puts (filled (now (out .entry)) at) (refusedText refusal) ⌝ }
+pub fn refused(out: &mut [u8], at: usize, said: Report) -> usize
+    ensures { λ r. ⌜ filled (now (out .exit)) r ≡ puts (filled (now (out .entry)) at) (refusedText said) ⌝ }
 {
     let at = text(out, at, b" refused");
-    match refusal {
-        Refusal::Plain(x) => value(out, at, x),
-        Refusal::One(x, a) => values(out, at, &[x, a]),
-        Refusal::Two(x, a, b) => values(out, at, &[x, a, b]),
+    let at = value(out, at, said.number);
+    counted(out, at, said)
+}
+
+// The words of an answer: a refusal's, or the values alone.
+pub fn said(out: &mut [u8], at: usize, said: Report) -> usize
+    ensures { λ r. ⌜ filled (now (out .exit)) r ≡ puts (filled (now (out .entry)) at) (saidText said) ⌝ }
+{
+    if said.number == 0 {
+        return counted(out, at, said);
     }
+    refused(out, at, said)
 }
 
 // The digit of a value below 16.

@@ -1,5 +1,6 @@
 // What is printed of a file.
 use crate::print;
+use ground::Report;
 use suffix::Identities;
 use suffix::Suffix;
 
@@ -39,21 +40,25 @@ fn good(i: Identities, crc: u32, firmware: usize, all: usize) {
     print::text(b"\n");
 }
 
-fn refused(words: &[u8]) {
+fn refused(said: Report, words: &[u8]) {
     print::text(b"refused: ");
+    print::decimal(said.number);
+    print::text(b": ");
     print::text(words);
     print::text(b"\n");
 }
 
 // A file's suffix, with how many of its bytes are firmware.
 pub fn show(read: Suffix, firmware: usize, all: usize) {
+    let said = read.said();
     match read {
         Suffix::Read { identities, crc } => good(identities, crc, firmware, all),
-        Suffix::FileTooShort => refused(b"40: the file has fewer than 16 bytes, so no suffix"),
-        Suffix::NoSignature => refused(b"41: the file has no suffix: UFD is not in its place"),
-        Suffix::WrongLength => refused(b"42: the suffix says another length than 16"),
+        Suffix::FileTooShort => refused(said, b"the file has fewer than 16 bytes, so no suffix"),
+        Suffix::NoSignature => refused(said, b"the file has no suffix: UFD is not in its place"),
+        Suffix::WrongLength => refused(said, b"the suffix says another length than 16"),
         Suffix::WrongCrc => refused(
-            b"43: the CRC is not that of the bytes before it: the file is damaged",
+            said,
+            b"the CRC is not that of the bytes before it: the file is damaged",
         ),
     }
 }

@@ -2,7 +2,9 @@
 ghost use mathlib.Core.Path.{_≡_};
 ghost use Prim.Native.Nat.{_<_};
 ghost use lib.ListN.{length};
-ghost use Rattle.functional_descriptor.specs.Descriptor.{flag, fieldsOf, descriptorOf};
+ghost use Rattle.functional_descriptor.specs.Descriptor.{flag, fieldsOf, descriptorOf, bitOf, saidOf};
+ghost use Rattle.ground.specs.Said.{reportOf};
+use ground::Report;
 use ground::Version;
 
 // What a device says of itself.
@@ -73,5 +75,45 @@ impl FunctionalDescriptor {
             return Descriptor::DataTooShort { got };
         }
         Descriptor::Read(fields(bytes))
+    }
+}
+
+fn bit(b: bool) -> u64
+    ensures { λ r. ⌜ r ≡ bitOf b ⌝ }
+{
+    if b { 1 } else { 0 }
+}
+
+// A descriptor's values, in the order of its bytes.
+fn values(d: FunctionalDescriptor) -> Report
+    ensures { λ r. ⌜ r ≡ reportOf (saidOf (Descriptor.Read d)) ⌝ }
+{
+    let version = d.dfu_version;
+    Report {
+        number: 0,
+        count: 8,
+        values: [
+            bit(d.can_download),
+            bit(d.can_upload),
+            bit(d.manifestation_tolerant),
+            bit(d.will_detach),
+            d.detach_timeout as u64,
+            d.transfer_size as u64,
+            version.0 as u64,
+            version.1 as u64,
+        ],
+    }
+}
+
+impl Descriptor {
+    // The number and values of the answer.
+    pub fn said(self) -> Report
+        ensures { λ r. ⌜ r ≡ reportOf (saidOf self) ⌝ }
+    {
+        match self {
+            Descriptor::NotOne => Report::plain(0),
+            Descriptor::DataTooShort { got } => Report::one(14, got as u64),
+            Descriptor::Read(d) => values(d),
+        }
     }
 }

@@ -20,6 +20,11 @@ use Rattle.get_status.proofs.GetStatusMessage.strict_from_bytes.Kinds a
 use Rattle.get_status.proofs.GetStatusMessage.strict_from_bytes.Reads as strict-reply-reads
 use Rattle.get_status.proofs.GetStatusMessage.judge.Kinds as judge-kinds
 use Rattle.get_status.proofs.GetStatusMessage.judge.Reads as judge-reads
+use Rattle.ground.specs.declared.Report.{Report}
+use Rattle.get_status.proofs.Reply.said.Kinds as reply-said-kinds
+use Rattle.get_status.proofs.Reply.said.Reads as reply-said-reads
+use Rattle.get_status.proofs.Met.said.Kinds as met-said-kinds
+use Rattle.get_status.proofs.Met.said.Reads as met-said-reads
 
 pub pinned-state-from-byte : Pins state-from-byte-kinds.ps state-from-byte-kinds.r {R = State} state-from-byte-reads.Post (λ κs r s. r)
 pinned-state-from-byte κs a x y s t p q = p ∙ sym q
@@ -41,3 +46,9 @@ pinned-strict-reply κs a x y s t p q = p ∙ sym q
 
 pub pinned-judge : Pins judge-kinds.ps judge-kinds.r {R = Met} judge-reads.Post (λ κs r s. r)
 pinned-judge κs a x y s t p q = p ∙ sym q
+
+pub pinned-reply-said : Pins reply-said-kinds.ps reply-said-kinds.r {R = Report} reply-said-reads.Post (λ κs r s. r)
+pinned-reply-said κs a x y s t p q = p ∙ sym q
+
+pub pinned-met-said : Pins met-said-kinds.ps met-said-kinds.r {R = Report} met-said-reads.Post (λ κs r s. r)
+pinned-met-said κs a x y s t p q = p ∙ sym q

@@ -3,7 +3,9 @@ ghost use mathlib.Core.Path.{_≡_};
 ghost use Prim.Native.Nat.{_<_};
 ghost use lib.ListN.{length};
 ghost use Rattle.get_status.specs.Names.{stateOf, stateByte, statusOf, statusByte, settled};
-ghost use Rattle.get_status.specs.Reply.{messageOf, replyOf, strictReplyOf, judged};
+ghost use Rattle.get_status.specs.Reply.{messageOf, replyOf, strictReplyOf, judged, saidOf, saidMet};
+ghost use Rattle.ground.specs.Said.{reportOf};
+use ground::Report;
 
 // What a device is doing, DFU 1.1's bState.
 pub enum State {
@@ -235,6 +237,56 @@ impl GetStatusMessage {
         Met::InvalidState {
             got,
             expected: busy,
+        }
+    }
+}
+
+// A message's values.
+fn values(m: GetStatusMessage) -> Report
+    ensures { λ r. ⌜ r ≡ reportOf (saidOf (Reply.Read m)) ⌝ }
+{
+    let status = m.status;
+    let state = m.state;
+    Report {
+        number: 0,
+        count: 4,
+        values: [
+            status.byte() as u64,
+            m.poll_timeout as u64,
+            state.byte() as u64,
+            m.index as u64,
+            0,
+            0,
+            0,
+            0,
+        ],
+    }
+}
+
+impl Reply {
+    // The number and values of the answer.
+    pub fn said(self) -> Report
+        ensures { λ r. ⌜ r ≡ reportOf (saidOf self) ⌝ }
+    {
+        match self {
+            Reply::ResponseTooShort { got } => Report::two(6, got as u64, 6),
+            Reply::StatusError { status } => Report::one(27, status.byte() as u64),
+            Reply::Read(m) => values(m),
+        }
+    }
+}
+
+impl Met {
+    // The number and values of the answer.
+    pub fn said(self) -> Report
+        ensures { λ r. ⌜ r ≡ reportOf (saidMet self) ⌝ }
+    {
+        match self {
+            Met::Reached => Report::plain(0),
+            Met::Busy { poll_timeout } => Report::one(0, poll_timeout as u64),
+            Met::InvalidState { got, expected } => {
+                Report::two(2, got.byte() as u64, expected.byte() as u64)
+            }
         }
     }
 }

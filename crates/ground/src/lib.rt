@@ -2,7 +2,9 @@
 ghost use mathlib.Core.Path.{_≡_};
 ghost use Prim.Native.Nat.{_≤_, min};
 ghost use lib.ListN.{take};
+ghost use mathlib.Core.List.{[], _∷_};
 ghost use Rattle.ground.specs.Bytes.{littleEndian, field, prefix};
+ghost use Rattle.ground.specs.Said.{says, reportOf};
 
 // A major and a minor number, as the Rust's (u8, u8).
 pub struct Version(pub u8, pub u8);
@@ -74,4 +76,46 @@ pub fn triple_at(s: &[u8], at: usize) -> u32
     ensures { λ r. ⌜ r ≡ field at 3 (now (s .entry)) ⌝ }
 {
     number_at(s, at, 3) as u32
+}
+
+// What an answer says in document 01's terms: the refusal's number, 0 where it is none, and its values, the first `count` of eight.
+pub struct Report {
+    pub number: u64,
+    pub count: usize,
+    pub values: [u64; 8],
+}
+
+impl Report {
+    // A number alone.
+    pub fn plain(number: u64) -> Report
+        ensures { λ r. ⌜ r ≡ reportOf (says number []) ⌝ }
+    {
+        Report {
+            number,
+            count: 0,
+            values: [0; 8],
+        }
+    }
+
+    // With one value.
+    pub fn one(number: u64, a: u64) -> Report
+        ensures { λ r. ⌜ r ≡ reportOf (says number (a ∷ [])) ⌝ }
+    {
+        Report {
+            number,
+            count: 1,
+            values: [a, 0, 0, 0, 0, 0, 0, 0],
+        }
+    }
+
+    // With two.
+    pub fn two(number: u64, a: u64, b: u64) -> Report
+        ensures { λ r. ⌜ r ≡ reportOf (says number (a ∷ b ∷ [])) ⌝ }
+    {
+        Report {
+            number,
+            count: 2,
+            values: [a, b, 0, 0, 0, 0, 0, 0],
+        }
+    }
 }

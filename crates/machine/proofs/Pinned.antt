@@ -24,6 +24,9 @@ use Rattle.machine.proofs.replies.second_reply.Kinds as second-reply-ki
 use Rattle.machine.proofs.replies.second_reply.Reads as second-reply-reads
 use Rattle.machine.proofs.replies.wait_reply.Kinds as wait-reply-kinds
 use Rattle.machine.proofs.replies.wait_reply.Reads as wait-reply-reads
+use Rattle.ground.specs.declared.Report.{Report}
+use Rattle.machine.proofs.Ask.said.Kinds as said-kinds
+use Rattle.machine.proofs.Ask.said.Reads as said-reads
 
 pub pinned-asked : Pins asked-kinds.ps asked-kinds.r {R = Ask} asked-reads.Post (λ κs r s. r)
 pinned-asked κs a x y s t p q = p ∙ sym q
@@ -54,3 +57,6 @@ pinned-second-reply κs a x y s t p q = p ∙ sym q
 
 pub pinned-wait-reply : Pins wait-reply-kinds.ps wait-reply-kinds.r {R = Moved} wait-reply-reads.Post (λ κs r s. r)
 pinned-wait-reply κs a x y s t p q = p ∙ sym q
+
+pub pinned-said : Pins said-kinds.ps said-kinds.r {R = Report} said-reads.Post (λ κs r s. r)
+pinned-said κs a x y s t p q = p ∙ sym q

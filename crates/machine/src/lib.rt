@@ -1,6 +1,7 @@
 // What a session does next, whatever its work: what moves of it, by what it is told. synchronous.rs, with the waits of get_status.rs.
 pub mod phases;
 pub mod replies;
+mod said;
 pub mod steps;
 
 use wire::Command;

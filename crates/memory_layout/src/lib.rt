@@ -4,7 +4,9 @@ ghost use Prim.Native.Nat.{_+_, _<_, _≤_, _^_, min};
 ghost use mathlib.Core.List.{_++_};
 ghost use lib.ListN.{length, take, drop, replicate};
 ghost use lib.Seq.{paste};
-ghost use Rattle.memory_layout.specs.Layout.{endOf, factorOf, scaled, starred, split, pieces, sizes, maxPages, checked, done, layoutOf};
+ghost use Rattle.memory_layout.specs.Layout.{endOf, factorOf, scaled, starred, split, pieces, sizes, maxPages, checked, done, layoutOf, saidError, saidOf};
+ghost use Rattle.ground.specs.Said.{reportOf};
+use ground::Report;
 use numeral::Number;
 
 // The most pages that a layout may have.
@@ -219,6 +221,35 @@ impl MemoryLayout {
                 answer
             }
             MemoryLayout::Refused(_) => answer,
+        }
+    }
+}
+
+impl Error {
+    // The number and values of the refusal: 9 to 12 quote a part of the text by place and length.
+    pub fn said(self) -> Report
+        ensures { λ r. ⌜ r ≡ reportOf (saidError self) ⌝ }
+    {
+        match self {
+            Error::InvalidPageFormat { at, len } => Report::two(9, at as u64, len as u64),
+            Error::ParseErrorPageCount { at, len } => Report::two(10, at as u64, len as u64),
+            Error::ParseErrorPageSize { at, len } => Report::two(11, at as u64, len as u64),
+            Error::InvalidPrefix { at, len } => Report::two(12, at as u64, len as u64),
+            Error::TextTooLong => Report::plain(20),
+            Error::PageTooLarge => Report::plain(21),
+            Error::TooManyPages => Report::plain(22),
+        }
+    }
+}
+
+impl MemoryLayout {
+    // The number and values of the answer.
+    pub fn said(self) -> Report
+        ensures { λ r. ⌜ r ≡ reportOf (saidOf self) ⌝ }
+    {
+        match self {
+            MemoryLayout::Pages(n) => Report::one(0, n as u64),
+            MemoryLayout::Refused(e) => e.said(),
         }
     }
 }

@@ -5,9 +5,9 @@ use mathlib.Core.Path.{_≡_, refl, ap, sym, _∙_}
 use mathlib.Core.Bool.{Bool, true, false}
 use mathlib.Core.List.{List, [], _∷_, _++_, map, map-append}
 use lib.ListN.{length, take, drop, length-drop}
-use lib.Seq.{take-all}
 use lib.Dec.{leb}
-use borrow.Author.Tests.{leb-true, leb-false, le-leb}
+use borrow.Author.Tests.{le-leb}
+use Rattle.ground.proofs.Lists.{take-min}
 use Rattle.papers.specs.Requests.{DFU_DNLOAD}
 use Rattle.papers.specs.Dfuse.{eraseCommand, setAddressCommand}
 use Rattle.papers.specs.Plan.{Dnload, dnload, erasing, several, blockNumber, bytesOf, blockOf, plan, pagesFor}
@@ -27,19 +27,6 @@ erase-onWire fw a = ap (λ (b : List ℕ). record { setup = DFU_DNLOAD 0 5; byte
 
 address-onWire : (fw : List ℕ) (a : ℕ) → onWire fw (Command.SetAddress a) ≡ dnload 0 (setAddressCommand a)
 address-onWire fw a = ap (λ (b : List ℕ). record { setup = DFU_DNLOAD 0 5; bytes = b }) (address-command a fw [])
-
-pub take-min : (a : ℕ) (l : List ℕ) → take (min a (length l)) l ≡ take a l
-take-min a l = by (leb a (length l)) refl
-  where
-    by : (b : Bool) → leb a (length l) ≡ b → take (min a (length l)) l ≡ take a l
-    by true e =
-        let h : a ≤ length l = leb-true _ _ e in
-        let m : min a (length l) ≡ a = omega arith in
-        ap (λ (x : ℕ). take x l) m
-    by false e =
-        let h : length l < a = leb-false _ _ e in
-        let m : min a (length l) ≡ length l = omega arith in
-        ap (λ (x : ℕ). take x l) m ∙ take-all (length l) l (omega arith) ∙ sym (take-all a l (omega arith))
 
 block-onWire : (fw : List ℕ) (su : Setup) (i : ℕ) → length fw ≡ su .length → i * su .size < su .length
     → onWire fw (blockAt su i) ≡ blockOf (su .dfuse) (su .size) fw i

@@ -1,6 +1,8 @@
 // The protocol that a version and an interface string announce, and the detach request: DfuProtocol and detach of lib.rs.
 ghost use mathlib.Core.Path.{_≡_};
-ghost use Rattle.protocol.specs.Interface.{placeOf, rsplit, addressOf, done, dfuseOf, interfaceOf, refusedBy, detachRequest};
+ghost use Rattle.protocol.specs.Interface.{placeOf, rsplit, addressOf, done, dfuseOf, interfaceOf, refusedBy, detachRequest, saidProtocol, saidRefusal, saidOf};
+ghost use Rattle.ground.specs.Said.{reportOf};
+use ground::Report;
 use ground::Version;
 use memory_layout::MAX_TEXT;
 use memory_layout::MemoryLayout;
@@ -160,5 +162,44 @@ pub fn detach() -> UsbWriteControl
         request_type: 0x21,
         request: 0,
         value: 1000,
+    }
+}
+
+impl Error {
+    // The number and values of the refusal.
+    pub fn said(self) -> Report
+        ensures { λ r. ⌜ r ≡ reportOf (saidRefusal self) ⌝ }
+    {
+        match self {
+            Error::UnknownProtocol => Report::plain(7),
+            Error::TextTooLong => Report::plain(20),
+            Error::InvalidInterfaceString => Report::plain(8),
+            Error::MemoryLayout(e) => e.said(),
+            Error::InvalidAddress => Report::plain(13),
+        }
+    }
+}
+
+impl DfuProtocol {
+    // The values of a protocol with so many pages.
+    fn said(self, pages: usize) -> Report
+        ensures { λ r. ⌜ r ≡ reportOf (saidProtocol self pages) ⌝ }
+    {
+        match self {
+            DfuProtocol::Dfu => Report::plain(0),
+            DfuProtocol::Dfuse { address } => Report::two(0, address as u64, pages as u64),
+        }
+    }
+}
+
+impl Interface {
+    // The number and values of the answer.
+    pub fn said(self) -> Report
+        ensures { λ r. ⌜ r ≡ reportOf (saidOf self) ⌝ }
+    {
+        match self {
+            Interface::Read { protocol, pages } => protocol.said(pages),
+            Interface::Refused(e) => e.said(),
+        }
     }
 }

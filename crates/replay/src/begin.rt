@@ -60,7 +60,7 @@ fn answer(started: Started, out: &mut [u8], at: usize) -> usize {
 
 fn started_words(started: Started, out: &mut [u8], at: usize) -> usize {
     match started {
-        Started::Refused(e) => output::refused(out, at, starting::refusal_of(e)),
+        Started::Refused(e) => output::refused(out, at, e.said()),
         Started::Session(session) => transcript::words(session.asks(), b"", 0, out, at),
     }
 }

@@ -1,7 +1,6 @@
 // The cases that are one call: each line is read to its end, and then the call is made and answered.
 use crate::store;
 use cases::output;
-use cases::output::Refusal;
 use cases::words;
 use cases::words::Amount;
 use cases::words::Bytes;
@@ -10,7 +9,6 @@ use functional_descriptor::FunctionalDescriptor;
 use get_status::GetStatusMessage;
 use get_status::Reply;
 use ground::Version;
-use memory_layout::Error as Fault;
 use memory_layout::MemoryLayout;
 use protocol::DfuProtocol;
 use protocol::Interface;
@@ -33,23 +31,8 @@ fn descriptor_words(d: Descriptor, out: &mut [u8], at: usize) -> usize {
     let at = output::text(out, at, b"descriptor");
     match d {
         Descriptor::NotOne => output::text(out, at, b" none"),
-        Descriptor::DataTooShort { got } => output::refused(out, at, Refusal::One(14, got as u64)),
-        Descriptor::Read(f) => output::values(out, at, &fields(f)),
+        _ => output::said(out, at, d.said()),
     }
-}
-
-fn fields(f: FunctionalDescriptor) -> [u64; 8] {
-    let v = f.dfu_version;
-    [
-        f.can_download as u64,
-        f.can_upload as u64,
-        f.manifestation_tolerant as u64,
-        f.will_detach as u64,
-        f.detach_timeout as u64,
-        f.transfer_size as u64,
-        v.0 as u64,
-        v.1 as u64,
-    ]
 }
 
 // `reply HEX`
@@ -67,24 +50,7 @@ pub fn reply(line: &[u8], bytes: &mut [u8], out: &mut [u8], at: usize) -> usize 
 
 fn reply_words(r: Reply, out: &mut [u8], at: usize) -> usize {
     let at = output::text(out, at, b"reply");
-    match r {
-        Reply::ResponseTooShort { got } => output::refused(out, at, Refusal::Two(6, got as u64, 6)),
-        Reply::StatusError { status } => {
-            output::refused(out, at, Refusal::One(27, status.byte() as u64))
-        }
-        Reply::Read(m) => output::values(out, at, &message(m)),
-    }
-}
-
-fn message(m: GetStatusMessage) -> [u64; 4] {
-    let status = m.status;
-    let state = m.state;
-    [
-        status.byte() as u64,
-        m.poll_timeout as u64,
-        state.byte() as u64,
-        m.index as u64,
-    ]
+    output::said(out, at, r.said())
 }
 
 // `detach`
@@ -169,20 +135,7 @@ fn layout_words(m: MemoryLayout, pages: &[u32], out: &mut [u8], at: usize) -> us
             let at = output::text(out, at, b" ok");
             output::pages(out, at, pages, n)
         }
-        MemoryLayout::Refused(e) => output::refused(out, at, fault(e)),
-    }
-}
-
-// The refusal of a layout text: 9 to 12 quote a part of it by offset and length.
-fn fault(e: Fault) -> Refusal {
-    match e {
-        Fault::InvalidPageFormat { at, len } => Refusal::Two(9, at as u64, len as u64),
-        Fault::ParseErrorPageCount { at, len } => Refusal::Two(10, at as u64, len as u64),
-        Fault::ParseErrorPageSize { at, len } => Refusal::Two(11, at as u64, len as u64),
-        Fault::InvalidPrefix { at, len } => Refusal::Two(12, at as u64, len as u64),
-        Fault::TextTooLong => Refusal::Plain(20),
-        Fault::PageTooLarge => Refusal::Plain(21),
-        Fault::TooManyPages => Refusal::Plain(22),
+        MemoryLayout::Refused(e) => output::refused(out, at, e.said()),
     }
 }
 
@@ -268,7 +221,7 @@ fn string_words(i: Interface, store: &[u32], out: &mut [u8], at: usize) -> usize
             DfuProtocol::Dfu => output::text(out, at, b" plain"),
             DfuProtocol::Dfuse { address } => dfuse(address as u64, store, pages, out, at),
         },
-        Interface::Refused(e) => output::refused(out, at, refusal_of(e)),
+        Interface::Refused(e) => output::refused(out, at, e.said()),
     }
 }
 
@@ -276,15 +229,4 @@ fn dfuse(address: u64, store: &[u32], pages: usize, out: &mut [u8], at: usize) -
     let at = output::text(out, at, b" dfuse");
     let at = output::value(out, at, address);
     output::pages(out, at, store, pages)
-}
-
-// The refusal of a version or an interface string.
-fn refusal_of(e: protocol::Error) -> Refusal {
-    match e {
-        protocol::Error::UnknownProtocol => Refusal::Plain(7),
-        protocol::Error::TextTooLong => Refusal::Plain(20),
-        protocol::Error::InvalidInterfaceString => Refusal::Plain(8),
-        protocol::Error::MemoryLayout(e) => fault(e),
-        protocol::Error::InvalidAddress => Refusal::Plain(13),
-    }
 }

@@ -153,7 +153,7 @@ fn start(plan: Plan, usual: Lent, firmware: &[u8], pages: &[u32]) -> Started {
 // The one line of a refused start.
 fn refused(e: StartError, command: usize, out: &mut [u8], at: usize) -> usize {
     let at = output::text(out, at, b"session");
-    let at = output::refused(out, at, starting::refusal_of(e));
+    let at = output::refused(out, at, e.said());
     let bytes = [238u8; 16];
     let at = transcript::line_end(0, words::first(&bytes, command), out, at);
     output::line_end(out, at)

@@ -1,5 +1,4 @@
 // What a download is started from: the words that `begin` and `session` have first, and what they mean.
-use cases::output::Refusal;
 use cases::words;
 use cases::words::Amount;
 use cases::words::Found;
@@ -8,7 +7,6 @@ use ground::Version;
 use protocol::DfuProtocol;
 use start::DfuSansIo;
 use start::Override;
-use start::StartError;
 
 // Where a download goes.
 pub struct Target {
@@ -119,15 +117,4 @@ pub fn protocol_of(target: Target) -> DfuProtocol {
         };
     }
     DfuProtocol::Dfu
-}
-
-// The refusal of a start.
-pub fn refusal_of(e: StartError) -> Refusal {
-    match e {
-        StartError::OutOfCapabilities => Refusal::Plain(1),
-        StartError::TooManyPages => Refusal::Plain(22),
-        StartError::NoSpaceLeft => Refusal::Plain(5),
-        StartError::TooManyBlocks => Refusal::Plain(29),
-        StartError::BudgetSpent => Refusal::Plain(23),
-    }
 }

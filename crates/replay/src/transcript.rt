@@ -1,13 +1,11 @@
 // What a session says, in words.
 use crate::firmware;
 use cases::output;
-use cases::output::Refusal;
 use machine::Ask;
 use session::Step;
 use wire::Command;
 use wire::Request;
 use work::End;
-use work::Error;
 
 // The words of what is said: a write's data is given, and the firmware's length.
 pub fn words(says: Ask, data: &[u8], length: usize, out: &mut [u8], at: usize) -> usize {
@@ -16,7 +14,7 @@ pub fn words(says: Ask, data: &[u8], length: usize, out: &mut [u8], at: usize) -
         Ask::Wait(ms) => wait(ms as u64, out, at),
         Ask::Reset => output::text(out, at, b" reset"),
         Ask::Finished(end) => finished(end, out, at),
-        Ask::Refused(e) => output::refused(out, at, refusal_of(e)),
+        Ask::Refused(e) => output::refused(out, at, e.said()),
     }
 }
 
@@ -79,24 +77,6 @@ fn command_bytes(data: &[u8], out: &mut [u8], at: usize) -> usize {
 fn part(place: u64, len: u64, out: &mut [u8], at: usize) -> usize {
     let at = output::text(out, at, b" firmware");
     output::values(out, at, &[place, len])
-}
-
-// The refusal that a session says.
-fn refusal_of(e: Error) -> Refusal {
-    match e {
-        Error::InvalidState { got, expected } => {
-            Refusal::Two(2, got.byte() as u64, expected.byte() as u64)
-        }
-        Error::EraseLimitReached => Refusal::Plain(4),
-        Error::NoSpaceLeft => Refusal::Plain(5),
-        Error::ResponseTooShort { got } => Refusal::Two(6, got as u64, 6),
-        Error::BudgetSpent => Refusal::Plain(23),
-        Error::NotAwaited => Refusal::Plain(24),
-        Error::NotAsAtStart => Refusal::Plain(25),
-        Error::Failed => Refusal::Plain(26),
-        Error::StatusError { status } => Refusal::One(27, status.byte() as u64),
-        Error::WrongCount { count, len } => Refusal::Two(28, count, len as u64),
-    }
 }
 
 // Whether the data is what is said to be written. A call that was refused leaves a session whose request may still be to be sent.

@@ -1,6 +1,6 @@
 // Two functions for a benchmark in another language to call: a layout's reading, and a whole session.
 ghost use mathlib.Core.Path.{_≡_};
-ghost use Rattle.memory_layout.specs.Layout.{layoutOf, saidError};
+ghost use Rattle.memory_layout.specs.Layout.{layoutOf};
 ghost use mathlib.Core.List.{[], _∷_};
 ghost use lib.ListN.{length};
 ghost use Rattle.start.specs.Start.{beginOf};
@@ -9,7 +9,6 @@ use functional_descriptor::FunctionalDescriptor;
 use ground::Version;
 use machine::Ask;
 use machine::Phase;
-use memory_layout::Error;
 use memory_layout::MemoryLayout;
 use protocol::DfuProtocol;
 use session::Session;
@@ -23,28 +22,16 @@ const REFUSED: u64 = 9223372036854775808;
 // The most calls that a session is given.
 const MOST_CALLS: u64 = 1000000;
 
-// Document 01's number of a refusal.
-fn refusal(error: Error) -> u8
-    ensures { λ r. ⌜ r ≡ saidError error .number ⌝ }
-{
-    match error {
-        Error::InvalidPageFormat { at: _, len: _ } => 9,
-        Error::ParseErrorPageCount { at: _, len: _ } => 10,
-        Error::ParseErrorPageSize { at: _, len: _ } => 11,
-        Error::InvalidPrefix { at: _, len: _ } => 12,
-        Error::TextTooLong => 20,
-        Error::PageTooLarge => 21,
-        Error::TooManyPages => 22,
-    }
-}
-
 // How many pages, or a refusal.
 fn number(layout: MemoryLayout) -> u64
     ensures { λ r. ⌜ r ≡ layoutNumber layout ⌝ }
 {
     match layout {
         MemoryLayout::Pages(n) => n as u64,
-        MemoryLayout::Refused(error) => REFUSED + (refusal(error) as u64),
+        MemoryLayout::Refused(error) => {
+            let said = error.said();
+            REFUSED + said.number
+        }
     }
 }
 

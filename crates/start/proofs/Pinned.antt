@@ -17,6 +17,11 @@ use Rattle.start.proofs.DfuSansIo.download.Kinds as download-kinds
 use Rattle.start.proofs.DfuSansIo.download.Reads as download-reads
 use Rattle.start.proofs.DfuSansIo.detach.Kinds as io-detach-kinds
 use Rattle.start.proofs.DfuSansIo.detach.Reads as io-detach-reads
+use Rattle.ground.specs.declared.Report.{Report}
+use Rattle.start.proofs.StartError.said.Kinds as error-said-kinds
+use Rattle.start.proofs.StartError.said.Reads as error-said-reads
+use Rattle.start.proofs.Started.said.Kinds as started-said-kinds
+use Rattle.start.proofs.Started.said.Reads as started-said-reads
 
 pub pinned-is-many : Pins is-many-kinds.ps is-many-kinds.r {R = Bool} is-many-reads.Post (λ κs r s. r)
 pinned-is-many κs a x y s t p q = p ∙ sym q
@@ -35,3 +40,9 @@ pinned-download κs a x y s t p q = p ∙ sym q
 
 pub pinned-io-detach : Pins io-detach-kinds.ps io-detach-kinds.r {R = UsbWriteControl} io-detach-reads.Post (λ κs r s. r)
 pinned-io-detach κs a x y s t p q = p ∙ sym q
+
+pub pinned-error-said : Pins error-said-kinds.ps error-said-kinds.r {R = Report} error-said-reads.Post (λ κs r s. r)
+pinned-error-said κs a x y s t p q = p ∙ sym q
+
+pub pinned-started-said : Pins started-said-kinds.ps started-said-kinds.r {R = Report} started-said-reads.Post (λ κs r s. r)
+pinned-started-said κs a x y s t p q = p ∙ sym q

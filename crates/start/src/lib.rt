@@ -1,9 +1,11 @@
 // Where a session begins: DfuSansIo of lib.rs, with download as our start.
 ghost use mathlib.Core.Path.{_≡_};
 ghost use lib.ListN.{length};
-ghost use Rattle.start.specs.Start.{newIo, withAddress, dfuseb, targetOf, fresh, nothingb, beyondb, overb, manyb, begunOf, beginOf};
+ghost use Rattle.start.specs.Start.{newIo, withAddress, dfuseb, targetOf, fresh, nothingb, beyondb, overb, manyb, begunOf, beginOf, saidStart, saidStarted};
+ghost use Rattle.ground.specs.Said.{reportOf};
 ghost use Rattle.protocol.specs.Interface.{detachRequest};
 use functional_descriptor::FunctionalDescriptor;
+use ground::Report;
 use machine::Phase;
 use memory_layout::MAX_PAGES;
 use protocol::DfuProtocol;
@@ -224,5 +226,32 @@ impl DfuSansIo {
         ensures { λ r. ⌜ r ≡ detachRequest ⌝ }
     {
         protocol::detach()
+    }
+}
+
+impl StartError {
+    // The number of the refusal.
+    pub fn said(self) -> Report
+        ensures { λ r. ⌜ r ≡ reportOf (saidStart self) ⌝ }
+    {
+        match self {
+            StartError::OutOfCapabilities => Report::plain(1),
+            StartError::TooManyPages => Report::plain(22),
+            StartError::NoSpaceLeft => Report::plain(5),
+            StartError::TooManyBlocks => Report::plain(29),
+            StartError::BudgetSpent => Report::plain(23),
+        }
+    }
+}
+
+impl Started {
+    // The number of the answer.
+    pub fn said(self) -> Report
+        ensures { λ r. ⌜ r ≡ reportOf (saidStarted self) ⌝ }
+    {
+        match self {
+            Started::Session(_) => Report::plain(0),
+            Started::Refused(e) => e.said(),
+        }
     }
 }

@@ -15,6 +15,9 @@ use Rattle.suffix.proofs.Suffix.read.Reads as suffix-reads
 use Rattle.suffix.proofs.Suffix.firmware as firmware-signature
 use Rattle.suffix.proofs.Suffix.firmware.Kinds as firmware-kinds
 use Rattle.suffix.proofs.Suffix.firmware.Reads as firmware-reads
+use Rattle.ground.specs.declared.Report.{Report}
+use Rattle.suffix.proofs.Suffix.said.Kinds as said-kinds
+use Rattle.suffix.proofs.Suffix.said.Reads as said-reads
 
 pub pinned-word-at : Pins word-at-kinds.ps word-at-kinds.r {R = ℕ} word-at-reads.Post (λ κs r s. r)
 pinned-word-at κs a x y s t p q = p ∙ sym q
@@ -25,3 +28,6 @@ pinned-suffix κs a x y s t p q = p ∙ sym q
 pub pinned-firmware : (κs : Lfts 1) (a : Dens {n = 1} κs firmware-kinds.ps) (x y : ResD firmware-signature.signature κs)
     (s t : AtExit (endedOf 1 firmware-kinds.ps firmware-kinds.r) κs) → firmware-reads.Post κs a x s → firmware-reads.Post κs a y t → now x ≡ now y
 pinned-firmware κs a x y s t p q = p ∙ sym q
+
+pub pinned-said : Pins said-kinds.ps said-kinds.r {R = Report} said-reads.Post (λ κs r s. r)
+pinned-said κs a x y s t p q = p ∙ sym q

@@ -1,7 +1,9 @@
 // The DFU suffix: the last 16 bytes of a file say whom the firmware before them is for, and end with a CRC over all before it.
 ghost use mathlib.Core.Path.{_≡_};
 ghost use Rattle.ground.specs.Bytes.{field};
-ghost use Rattle.suffix.specs.Suffix.{identitiesOf, suffixOf, firmwareOf};
+ghost use Rattle.suffix.specs.Suffix.{identitiesOf, suffixOf, firmwareOf, saidOf};
+ghost use Rattle.ground.specs.Said.{reportOf};
+use ground::Report;
 
 // How many bytes a suffix has; its length byte says so too.
 pub const LENGTH: usize = 16;
@@ -90,6 +92,41 @@ impl Suffix {
             Suffix::NoSignature => &file[..0],
             Suffix::WrongLength => &file[..0],
             Suffix::WrongCrc => &file[..0],
+        }
+    }
+}
+
+// The values of a suffix that was read.
+fn values(i: Identities, crc: u32) -> Report
+    ensures { λ r. ⌜ r ≡ reportOf (saidOf (Suffix.Read i crc)) ⌝ }
+{
+    Report {
+        number: 0,
+        count: 5,
+        values: [
+            i.device as u64,
+            i.product as u64,
+            i.vendor as u64,
+            i.dfu_version as u64,
+            crc as u64,
+            0,
+            0,
+            0,
+        ],
+    }
+}
+
+impl Suffix {
+    // The number and values of the answer.
+    pub fn said(self) -> Report
+        ensures { λ r. ⌜ r ≡ reportOf (saidOf self) ⌝ }
+    {
+        match self {
+            Suffix::FileTooShort => Report::plain(40),
+            Suffix::NoSignature => Report::plain(41),
+            Suffix::WrongLength => Report::plain(42),
+            Suffix::WrongCrc => Report::plain(43),
+            Suffix::Read { identities, crc } => values(identities, crc),
         }
     }
 }

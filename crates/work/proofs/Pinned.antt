@@ -21,6 +21,9 @@ use Rattle.work.proofs.is_taken.Kinds as is-taken-kinds
 use Rattle.work.proofs.is_taken.Reads as is-taken-reads
 use Rattle.work.proofs.wait_after.Kinds as wait-after-kinds
 use Rattle.work.proofs.wait_after.Reads as wait-after-reads
+use Rattle.ground.specs.declared.Report.{Report}
+use Rattle.work.proofs.Error.said.Kinds as said-kinds
+use Rattle.work.proofs.Error.said.Reads as said-reads
 
 pub pinned-blocks : Pins blocks-kinds.ps blocks-kinds.r {R = ℕ} blocks-reads.Post (λ κs r s. r)
 pinned-blocks κs a x y s t p q = p ∙ sym q
@@ -45,3 +48,6 @@ pinned-is-taken κs a x y s t p q = p ∙ sym q
 
 pub pinned-wait-after : Pins wait-after-kinds.ps wait-after-kinds.r {R = Wait} wait-after-reads.Post (λ κs r s. r)
 pinned-wait-after κs a x y s t p q = p ∙ sym q
+
+pub pinned-said : Pins said-kinds.ps said-kinds.r {R = Report} said-reads.Post (λ κs r s. r)
+pinned-said κs a x y s t p q = p ∙ sym q

@@ -1,9 +1,11 @@
 // What every work has: its types, the ledger of accepted bytes with the blocks that are read off it, and what is awaited after a command.
 ghost use mathlib.Core.Path.{_≡_};
 ghost use Prim.Native.Nat.{min};
-ghost use Rattle.work.specs.Work.{blockCount, numberAt, blockLength, staged as stagedAs, entered, waitAfter, wholeOf, takenb};
+ghost use Rattle.work.specs.Work.{blockCount, numberAt, blockLength, staged as stagedAs, entered, waitAfter, wholeOf, takenb, saidError};
+ghost use Rattle.ground.specs.Said.{reportOf};
 use get_status::State;
 use get_status::Status;
+use ground::Report;
 use wire::Command;
 
 // Why a session says no.
@@ -206,5 +208,27 @@ pub fn wait_after(setup: Setup, command: Command, count: u64) -> Wait
             },
             ms: 0,
         },
+    }
+}
+
+impl Error {
+    // The number and values of the refusal.
+    pub fn said(self) -> Report
+        ensures { λ r. ⌜ r ≡ reportOf (saidError self) ⌝ }
+    {
+        match self {
+            Error::InvalidState { got, expected } => {
+                Report::two(2, got.byte() as u64, expected.byte() as u64)
+            }
+            Error::EraseLimitReached => Report::plain(4),
+            Error::NoSpaceLeft => Report::plain(5),
+            Error::ResponseTooShort { got } => Report::two(6, got as u64, 6),
+            Error::BudgetSpent => Report::plain(23),
+            Error::NotAwaited => Report::plain(24),
+            Error::NotAsAtStart => Report::plain(25),
+            Error::Failed => Report::plain(26),
+            Error::StatusError { status } => Report::one(27, status.byte() as u64),
+            Error::WrongCount { count, len } => Report::two(28, count, len as u64),
+        }
     }
 }
