@@ -1,5 +1,7 @@
-//! Times the proved functions of `crates/speed` against dfu-core, in one process and in turns; the least time of each counts.
-//! Usage: driver [ROUNDS]
+//! Times the proved functions of `crates/speed` against dfu-core and against routines in Rust, in one process and in turns; the least time of each counts.
+//! Usage: driver [ROUNDS], or driver once LAYOUT, which calls each function once and is counted by callgrind: a layout by its number, and the file
+
+mod crc;
 
 use std::cell::Cell;
 use std::convert::TryFrom;
@@ -15,6 +17,7 @@ use dfu_core::{DfuIo, DfuProtocol};
 // A slice of an exported Rattle function is a pointer and a count.
 extern "C" {
     fn rt_layout(text: *const u8, length: usize, store: *mut u32, room: usize) -> u64;
+    fn rt_verify(file: *const u8, length: usize) -> u64;
     fn rt_session(
         firmware: *const u8,
         length: usize,
@@ -31,9 +34,21 @@ const BLOCKS: usize = 10_000;
 const SIZE: u16 = 64;
 const ADDRESS: u32 = 0x0800_0000;
 const PAGE: u32 = 1 << 20;
+const FILE: usize = 1 << 19;
 
 fn rattle_layout(text: &str, store: &mut [u32]) -> u64 {
     unsafe { rt_layout(text.as_ptr(), text.len(), store.as_mut_ptr(), store.len()) }
+}
+
+fn rattle_verify(file: &[u8]) -> u64 {
+    unsafe { rt_verify(file.as_ptr(), file.len()) }
+}
+
+/// How many pages dfu-core reads.
+#[no_mangle]
+#[inline(never)]
+pub fn rust_layout(text: &str) -> usize {
+    black_box(MemoryLayout::try_from(black_box(text)).expect("a good layout")).len()
 }
 
 fn rattle_session(firmware: &[u8], pages: &[u32]) -> u64 {
@@ -155,10 +170,10 @@ fn least(rounds: u32, calls: u32, mut rattle: impl FnMut(), mut rust: impl FnMut
     (best.0 / f64::from(calls), best.1 / f64::from(calls))
 }
 
-fn show(what: &str, per: &str, parts: u64, (rattle, rust): (f64, f64)) {
+fn show(what: &str, other: &str, per: &str, parts: u64, (rattle, rust): (f64, f64)) {
     let ns = |seconds: f64| seconds * 1e9 / parts as f64;
     println!(
-        "{what}: {:.3} of dfu-core ({:.2} and {:.2} ns {per})",
+        "{what}: {:.3} of {other} ({:.2} and {:.2} ns {per})",
         rattle / rust,
         ns(rattle),
         ns(rust)
@@ -178,10 +193,10 @@ fn layout(what: &str, text: &str, pages: usize, (per, parts): (&str, usize), rou
             black_box(rattle_layout(black_box(text), black_box(&mut store)));
         },
         || {
-            black_box(MemoryLayout::try_from(black_box(text)).expect("a good layout"));
+            black_box(rust_layout(black_box(text)));
         },
     );
-    show(what, per, parts as u64, times);
+    show(what, "dfu-core", per, parts as u64, times);
 }
 
 /// A refusal has document 01's number, and leaves the store; dfu-core refuses the same texts.
@@ -232,31 +247,96 @@ fn session(rounds: u32) {
             black_box(rust_session(black_box(&firmware), black_box(&pages)));
         },
     );
-    show(&what, "an answer", told, times);
+    show(&what, "dfu-core", "an answer", told, times);
 }
 
-fn main() {
-    let rounds = std::env::args()
-        .nth(1)
-        .map_or(1000, |n| n.parse().expect("a number of rounds"));
-    refusals();
+/// The texts that are read: a name, the text, its pages, and what the time is divided by.
+fn texts() -> Vec<(String, String, usize, (&'static str, usize))> {
+    let mut texts = vec![];
     for (pages, piece) in [(512, "8*1Kg"), (PAGES, "64*1Kg")] {
         let per = ("a page", pages);
-        let pieces = [piece; 64].join(",");
-        layout(&format!("layout, {pages} pages in 64 pieces"), &pieces, pages, per, rounds);
-        let one = format!("{pages}*1Kg");
-        layout(&format!("layout, {pages} pages in 1 piece"), &one, pages, per, rounds);
+        texts.push((format!("layout, {pages} pages in 64 pieces"), [piece; 64].join(","), pages, per));
+        texts.push((format!("layout, {pages} pages in 1 piece"), format!("{pages}*1Kg"), pages, per));
     }
     // The text of bench/digits: ten-digit numbers, but for the last piece, which fills 1,024 bytes.
     let text = "0000000001*0000000001Kg,".repeat(42) + "000001*0000001Kg";
     let digits = text.bytes().filter(u8::is_ascii_digit).count();
-    layout(
-        "layout, 1,024 bytes with leading zeros, 853 digits",
-        &text,
-        43,
-        ("a digit", digits),
-        rounds,
-    );
+    texts.push(("layout, 1,024 bytes with leading zeros, 853 digits".into(), text, 43, ("a digit", digits)));
+    texts
+}
+
+/// A file of 512 KiB with a suffix, whose CRC is the complement of zlib's.
+fn file() -> Vec<u8> {
+    let mut file: Vec<u8> = (0..FILE - 16).map(|i| (i * i % 251) as u8).collect();
+    file.extend([0x00, 0x01, 0x11, 0xdf, 0x83, 0x04, 0x00, 0x01]);
+    file.extend(b"UFD");
+    file.push(16);
+    let crc = crc::rust_bytewise(&file);
+    file.extend(crc.to_le_bytes());
+    file
+}
+
+type Routine = fn(&[u8]) -> u32;
+
+const ROUTINES: [(&str, Routine); 3] = [
+    ("Rust bytewise", crc::rust_bytewise),
+    ("Rust slicing by 16", crc::rust_by_sixteen),
+    ("Rust slicing by 16, the register last", crc::rust_by_sixteen_last),
+];
+
+/// Whether a file's CRC is right, by a routine in Rust: what `rt_verify` tells, but for the suffix's other fields.
+fn is_right(file: &[u8], crc: Routine) -> bool {
+    let (before, stored) = file.split_at(file.len() - 4);
+    crc(before).to_le_bytes() == stored
+}
+
+fn verify(rounds: u32) {
+    let file = file();
+    let mut damaged = file.clone();
+    damaged[1000] ^= 1;
+    assert_eq!(rattle_verify(&file), FILE as u64 - 16, "the firmware's length");
+    assert_eq!(rattle_verify(&damaged), REFUSED + 43, "a damaged file");
+    for (name, crc) in ROUTINES {
+        assert!(is_right(&file, crc) && !is_right(&damaged, crc), "{name}");
+        let times = least(
+            rounds,
+            4,
+            || {
+                black_box(rattle_verify(black_box(&file)));
+            },
+            || {
+                black_box(is_right(black_box(&file), crc));
+            },
+        );
+        show("file of 512 KiB, its CRC verified", name, "a byte", FILE as u64, times);
+    }
+}
+
+/// One call of each, for callgrind to count.
+fn once(layout: usize) {
+    let (_, text, _, _) = &texts()[layout];
+    let mut store = [0u32; PAGES];
+    black_box(rattle_layout(black_box(text), black_box(&mut store)));
+    black_box(rust_layout(black_box(text)));
+    let file = file();
+    black_box(rattle_verify(black_box(&file)));
+    for (_, crc) in ROUTINES {
+        black_box(is_right(black_box(&file), crc));
+    }
+}
+
+fn main() {
+    let words: Vec<String> = std::env::args().skip(1).collect();
+    let number = |at: usize| words[at].parse().expect("a number");
+    if words.first().map(String::as_str) == Some("once") {
+        return once(number(1));
+    }
+    let rounds = if words.is_empty() { 1000 } else { number(0) } as u32;
+    refusals();
+    for (what, text, pages, per) in texts() {
+        layout(&what, &text, pages, per, rounds);
+    }
+    verify(rounds);
     session(rounds);
 }
 

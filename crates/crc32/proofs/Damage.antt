@@ -8,6 +8,7 @@ use Rattle.ground.specs.Bytes.{Bytes}
 use Rattle.papers.specs.Crc.{polynomial, shifted, eight, crc}
 use Rattle.crc32.proofs.Xor.{xor-assoc, digit}
 use Rattle.crc32.proofs.Linear.{shifted-is, shifted-xor}
+use Rattle.crc32.proofs.Bytewise.{crc-append}
 
 -- numbers whose sum is nothing are the same, and what is added to both may be left out
 same : (x y : ℕ) → bitXor x y ≡ 0 → x ≡ y
@@ -83,11 +84,6 @@ crc-one x y (b ∷ bs) h k l e =
     (xor-comm b x
     ∙ eight-one (bitXor x b) (bitXor y b) p q (crc-one (eight (bitXor x b)) (eight (bitXor y b)) bs (eight-lt (bitXor x b) p) (eight-lt (bitXor y b) q) (l .1) e)
     ∙ xor-comm y b)
-
-pub crc-append : (c : ℕ) (xs ys : List ℕ) → crc c (xs ++ ys) ≡ crc (crc c xs) ys
-unfolding crc
-crc-append c [] ys = refl
-crc-append c (x ∷ xs) ys = crc-append (eight (bitXor c x)) xs ys
 
 -- ONE BYTE: of two lists of bytes that differ in it alone the CRC differs
 pub byte-seen : (c : ℕ) (p q : List ℕ) (a b : ℕ) → c < 2 ^ 32 → Bytes p → Bytes q → a < 256 → b < 256 → crc c (p ++ (a ∷ q)) ≡ crc c (p ++ (b ∷ q)) → a ≡ b

@@ -1,9 +1,11 @@
-// CRC-32 as DFU 1.1's appendix B has it: a byte at a time by a table of 256 words, held to the definition a bit at a time.
+// CRC-32 as DFU 1.1's appendix B has it, held to the definition a bit at a time: a byte at a time by a table of 256 words,
+// and where there are many bytes sixteen at a time by sixteen such tables.
 ghost use mathlib.Core.Path.{_≡_};
-ghost use Prim.Native.Nat.{_%_};
+ghost use Prim.Native.Nat.{_+_, _*_, _/_, _%_, _<_, _≤_, suc};
 ghost use lib.Bits.{bitXor};
+ghost use lib.ListN.{length, take, drop};
 ghost use Rattle.papers.specs.Crc.{eight, crc, crcOf};
-ghost use Rattle.crc32.specs.Crc.{Table};
+ghost use Rattle.crc32.specs.Crc.{Table, eights, Laid, Tables, fourBy};
 
 // What the register 0 makes of each byte.
 const TABLE: [u32; 256] = [
@@ -268,6 +270,9 @@ const TABLE: [u32; 256] = [
 // The register before the first byte; after the last nothing more is done to it.
 const START: u32 = 0xffffffff;
 
+// Fewer bytes than these don't repay the sixteen tables, which take as long to lay out.
+const FEW: usize = 2048;
+
 fn lowest(c: u32) -> u8
     ensures { λ r. ⌜ r ≡ c % 256 ⌝ }
 {
@@ -296,11 +301,142 @@ fn update(table: &[u32; 256], bytes: &[u8], start: u32) -> u32
     c
 }
 
+// What a place of the sixteen tables is made from: the word one table before it, and in the first table the byte itself.
+fn source(tables: &[u32; 4096], i: usize) -> u32
+    requires { ⌜ i < 4096 ⌝ }
+    requires { ⌜ Laid (now tables) i ⌝ }
+    ensures { λ r. ⌜ r ≡ eights (i / 256) (i % 256) ⌝ }
+{
+    if i < 256 {
+        return i as u32;
+    }
+    tables[i - 256]
+}
+
+// The sixteen tables, laid out place after place from the first.
+fn lay(table: &[u32; 256], tables: &mut [u32; 4096])
+    requires { ⌜ Table (now table) ⌝ }
+    requires { ⌜ length (now tables) ≡ 4096 ⌝ }
+    ensures { λ r. ⌜ Tables (now (tables .exit)) ⌝ }
+{
+    let mut i = 0;
+    while i < 4096 {
+        tables[i] = step(table, source(tables, i), 0);
+        i += 1;
+    }
+}
+
+// The word of table k at x.
+fn look(tables: &[u32; 4096], k: usize, x: u8) -> u32
+    requires { ⌜ k < 16 ⌝ }
+    requires { ⌜ Tables (now tables) ⌝ }
+    ensures { λ r. ⌜ r ≡ eights (suc k) x ⌝ }
+{
+    tables[256 * k + (x as usize)]
+}
+
+// Four bytes, each by its table, added to r. The first comes in last: in a block it hangs on the register, and little else waits for it.
+fn four(tables: &[u32; 4096], k: usize, b0: u8, b1: u8, b2: u8, b3: u8, r: u32) -> u32
+    requires { ⌜ k < 13 ⌝ }
+    requires { ⌜ Tables (now tables) ⌝ }
+    ensures { λ q. ⌜ q ≡ fourBy k b0 b1 b2 b3 r ⌝ }
+{
+    look(tables, k + 3, b0)
+        ^ (look(tables, k + 2, b1) ^ (look(tables, k + 1, b2) ^ (look(tables, k, b3) ^ r)))
+}
+
+// What the register 0 makes of the four bytes from i and the k after them; r is what it makes of those k.
+fn quad(tables: &[u32; 4096], k: usize, bytes: &[u8], i: usize, r: u32) -> u32
+    requires { ⌜ k < 13 ⌝ }
+    requires { ⌜ Tables (now tables) ⌝ }
+    requires { ⌜ i + 4 + k ≤ length (now bytes) ⌝ }
+    requires { ⌜ r ≡ crc 0 (take k (drop (i + 4) (now bytes))) ⌝ }
+    ensures { λ q. ⌜ q ≡ crc 0 (take (k + 4) (drop i (now (bytes .entry)))) ⌝ }
+{
+    four(
+        tables,
+        k,
+        bytes[i],
+        bytes[i + 1],
+        bytes[i + 2],
+        bytes[i + 3],
+        r,
+    )
+}
+
+// Four bytes as a word, the lowest first: one load, once compiled.
+fn word(b0: u8, b1: u8, b2: u8, b3: u8) -> u32
+    ensures { λ r. ⌜ r ≡ b0 + b1 * 256 + b2 * 65536 + b3 * 16777216 ⌝ }
+{
+    (b0 as u32) + (b1 as u32) * 256 + (b2 as u32) * 65536 + (b3 as u32) * 16777216
+}
+
+// What the register c makes of the sixteen bytes from i; r is what the register 0 makes of the last twelve.
+fn head(tables: &[u32; 4096], c: u32, bytes: &[u8], i: usize, r: u32) -> u32
+    requires { ⌜ Tables (now tables) ⌝ }
+    requires { ⌜ i + 16 ≤ length (now bytes) ⌝ }
+    requires { ⌜ r ≡ crc 0 (take 12 (drop (i + 4) (now bytes))) ⌝ }
+    ensures { λ q. ⌜ q ≡ crc c (take 16 (drop i (now (bytes .entry)))) ⌝ }
+{
+    let w = c ^ word(bytes[i], bytes[i + 1], bytes[i + 2], bytes[i + 3]);
+    four(
+        tables,
+        12,
+        lowest(w),
+        lowest(w >> 8),
+        lowest(w >> 16),
+        lowest(w >> 24),
+        r,
+    )
+}
+
+// The register after the sixteen bytes from i.
+fn block(tables: &[u32; 4096], c: u32, bytes: &[u8], i: usize) -> u32
+    requires { ⌜ Tables (now tables) ⌝ }
+    requires { ⌜ i + 16 ≤ length (now bytes) ⌝ }
+    ensures { λ r. ⌜ r ≡ crc c (take 16 (drop i (now (bytes .entry)))) ⌝ }
+{
+    let z = quad(tables, 0, bytes, i + 12, 0);
+    let y = quad(tables, 4, bytes, i + 8, z);
+    let x = quad(tables, 8, bytes, i + 4, y);
+    head(tables, c, bytes, i, x)
+}
+
+// The register after whole blocks.
+fn blocks(tables: &[u32; 4096], bytes: &[u8], start: u32) -> u32
+    requires { ⌜ Tables (now tables) ⌝ }
+    requires { ⌜ length (now bytes) % 16 ≡ 0 ⌝ }
+    ensures { λ r. ⌜ r ≡ crc start (now (bytes .entry)) ⌝ }
+{
+    let mut c = start;
+    let mut i = 0;
+    while i < bytes.len() {
+        c = block(tables, c, bytes, i);
+        i += 16;
+    }
+    c
+}
+
+// The register after the bytes: few of them one by one, many of them by blocks, and then what is left.
+fn advance(table: &[u32; 256], bytes: &[u8], start: u32) -> u32
+    requires { ⌜ Table (now table) ⌝ }
+    ensures { λ r. ⌜ r ≡ crc start (now (bytes .entry)) ⌝ }
+{
+    if bytes.len() < FEW {
+        return update(table, bytes, start);
+    }
+    let mut tables: [u32; 4096] = [0; 4096];
+    lay(table, &mut tables);
+    let n = bytes.len() - bytes.len() % 16;
+    let c = blocks(&tables, &bytes[..n], start);
+    update(table, &bytes[n..], c)
+}
+
 // The CRC of bytes, as a suffix stores it: the complement of what zlib's crc32 gives.
 pub fn of(bytes: &[u8]) -> u32
     ensures { λ r. ⌜ r ≡ crcOf (now (bytes .entry)) ⌝ }
 {
     // The table is laid out once, not at each byte.
     let table = TABLE;
-    update(&table, bytes, START)
+    advance(&table, bytes, START)
 }

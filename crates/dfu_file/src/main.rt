@@ -15,8 +15,9 @@ fn first(s: &[u8], n: usize) -> &[u8] {
 }
 
 fn show(file: &[u8]) {
-    let firmware = Suffix::firmware(file);
-    report::show(Suffix::read(file), firmware.len(), file.len());
+    let checked = Suffix::check(file);
+    let read = checked.suffix;
+    report::show(read, checked.firmware, file.len());
 }
 
 fn with_space(space: &mut [u8; file::SPACE]) {

@@ -3,5 +3,8 @@ pub mod Pieces
 pub mod Turns
 pub mod Accepted
 pub mod Store
+pub mod OnePass
+pub mod Laid
+pub mod Runs
 pub mod Printed
 pub mod Pinned

@@ -1,4 +1,6 @@
 // A memory layout's text, to page sizes in a lent store: memory_layout.rs.
+mod usual;
+
 ghost use mathlib.Core.Path.{_≡_};
 ghost use Prim.Native.Nat.{_+_, _<_, _≤_, _^_, min};
 ghost use mathlib.Core.List.{_++_};
@@ -8,6 +10,7 @@ ghost use Rattle.memory_layout.specs.Layout.{endOf, factorOf, scaled, st
 ghost use Rattle.ground.specs.Said.{reportOf};
 use ground::Report;
 use numeral::Number;
+use usual::Quick;
 
 // The most pages that a layout may have.
 pub const MAX_PAGES: usize = 4096;
@@ -210,8 +213,8 @@ impl MemoryLayout {
         read(src, ground::least(store, MAX_PAGES))
     }
 
-    // Reads a layout into a store. A refusal leaves the store as it was.
-    pub fn try_from(src: &[u8], store: &mut [u32]) -> MemoryLayout
+    // Reads any layout into a store: once to check it, and once more for its pages.
+    fn checked_first(src: &[u8], store: &mut [u32]) -> MemoryLayout
         ensures { λ r. ⌜ done r (now (store .exit)) ≡ layoutOf (now (src .entry)) (now (store .entry)) ⌝ }
     {
         let answer = MemoryLayout::check(src, store.len());
@@ -221,6 +224,24 @@ impl MemoryLayout {
                 answer
             }
             MemoryLayout::Refused(_) => answer,
+        }
+    }
+
+    // Reads a layout into a store, a usual one in one pass. A refusal leaves the store as it was.
+    pub fn try_from(src: &[u8], store: &mut [u32]) -> MemoryLayout
+        ensures { λ r. ⌜ done r (now (store .exit)) ≡ layoutOf (now (src .entry)) (now (store .entry)) ⌝ }
+    {
+        if MAX_TEXT < src.len() {
+            return MemoryLayout::Refused(Error::TextTooLong);
+        }
+        let mut runs = [0u32; 512];
+        let read = usual::read_runs(src, ground::least(store.len(), MAX_PAGES), &mut runs);
+        match read {
+            Quick::Pages { pages, runs: n } => {
+                usual::lay(&runs, n, store);
+                MemoryLayout::Pages(pages)
+            }
+            Quick::Other => MemoryLayout::checked_first(src, store),
         }
     }
 }

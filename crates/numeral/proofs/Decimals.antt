@@ -52,7 +52,7 @@ letter c =
 
 -- d is a byte c less 48, which wraps where c is below
 module _ (c d : ℕ) (e : (d + 48) % 2 ^ 64 ≡ c) where
-  digit-in : d ≤ 9 → d ≡ digitOf c
+  pub digit-in : d ≤ 9 → d ≡ digitOf c
   digit-in h =
       let k : c ≡ d + 48 = omega arith in
       simp (le-ltb c 48 (omega arith), le-leb c 57 (omega arith)) (omega arith)

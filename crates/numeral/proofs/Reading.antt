@@ -1,7 +1,8 @@
 -- Laws of `readOn` and `numberOf`, over the base: one for each way that the reader goes. Assumes nothing.
 use Prim.Native.Nat.{ℕ, _+_, _*_, _<_, _≤_}
-use mathlib.Core.Path.{_≡_, refl, _∙_}
-use mathlib.Core.List.{List, [], _∷_}
+use mathlib.Core.Path.{_≡_, refl, ap, sym, _∙_}
+use mathlib.Core.Bool.{Bool, true, false}
+use mathlib.Core.List.{List, [], _∷_, _++_}
 use native.Mathlib.Nat.{mul-le-mul-left}
 use native.Mathlib.Numerals.{add-one}
 use native.Mathlib.Omega.{arith}
@@ -63,3 +64,30 @@ num-bare b (c ∷ cs) n p = simp (ne-eqb c 43 p)
 pub unsigned : (b : ℕ) (s : List ℕ) → 0 < length s → Without 43 s → numberOf b s ≡ readOn b s 0
 unsigned b [] h f = absurd (omega arith)
 unsigned b (c ∷ s) h f = num-bare b (c ∷ s) (omega arith) (f .0)
+
+-- one digit more at the end
+abbrev held : Number → ℕ
+held Number.Bad = 0
+held (Number.Value v) = v
+
+pub one-more : (b : ℕ) (xs : List ℕ) (c w v : ℕ) → readOn b xs w ≡ Number.Value v → digitOf c < b → v * b + digitOf c ≤ 4294967295
+    → readOn b (xs ++ (c ∷ [])) w ≡ Number.Value (v * b + digitOf c)
+unfolding readOn
+one-more b [] c w v e p q =
+    let k : w ≡ v = ap held e in
+    rw k (simp (lt-leb b (digitOf c) p, le-ltb 4294967295 (v * b + digitOf c) q))
+one-more b (x ∷ xs) c w v e p q = go (leb b (digitOf x)) (ltb 4294967295 (w * b + digitOf x)) e (λ f. one-more b xs c (w * b + digitOf x) v f p q)
+  where
+    go : (s t : Bool) → pick s Number.Bad (pick t Number.Bad (readOn b xs (w * b + digitOf x))) ≡ Number.Value v
+        → (readOn b xs (w * b + digitOf x) ≡ Number.Value v → readOn b (xs ++ (c ∷ [])) (w * b + digitOf x) ≡ Number.Value (v * b + digitOf c))
+        → pick s Number.Bad (pick t Number.Bad (readOn b (xs ++ (c ∷ [])) (w * b + digitOf x))) ≡ Number.Value (v * b + digitOf c)
+    go true t h f = absurd (let z : _≡_ {A = ℕ} 0 1 = cc in omega arith)
+    go false true h f = absurd (let z : _≡_ {A = ℕ} 0 1 = cc in omega arith)
+    go false false h f = f h
+
+-- digits alone are a number
+pub digits-alone : (s : List ℕ) (v : ℕ) → 0 < length s → readOn 10 s 0 ≡ Number.Value v → numberOf 10 s ≡ Number.Value v
+digits-alone s v h e =
+    num-bare 10 s (λ (z : length s ≡ 0). omega arith)
+    (λ (k : getD s 0 0 ≡ 43). absurd (let f = bad-digit 10 s 0 0 99 h (ap (λ (c : ℕ). digitOf c) (sym k)) (omega arith) in let z : _≡_ {A = ℕ} 0 1 = cc in omega arith))
+    ∙ e

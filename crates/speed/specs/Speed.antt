@@ -2,6 +2,7 @@
 use Prim.Native.Nat.{ℕ, zero, suc, _+_, _-_}
 use mathlib.Core.Bool.{Bool, true, false}
 use mathlib.Core.List.{List, [], _∷_}
+use lib.Dec.{eqb}
 use lib.ListN.{length}
 use Rattle.ground.specs.Pick.{pick}
 use Rattle.memory_layout.specs.Layout.{Done, saidError}
@@ -16,10 +17,16 @@ use Rattle.start.specs.Start.{newIo, beginOf}
 use Rattle.start.specs.declared.DfuSansIo.{DfuSansIo}
 use Rattle.start.specs.declared.Started.{Started}
 use Rattle.plan.specs.Answers.{ideal}
+use Rattle.suffix.specs.declared.Checked.{Checked}
+use Rattle.suffix.specs.Suffix as suffix
 
 -- 2^63 and document 01's number of the refusal
 abbrev pub refusalOf : Error → ℕ
 refusalOf e = 9223372036854775808 + saidError e .number
+
+-- how many bytes of a file are firmware, or the refusal
+abbrev pub verifiedOf : Checked → ℕ
+verifiedOf c = pick (eqb (suffix.saidOf (c .suffix) .number) 0) (c .firmware) (9223372036854775808 + suffix.saidOf (c .suffix) .number)
 
 -- how many pages, or the refusal
 abbrev pub layoutNumber : MemoryLayout → ℕ

@@ -1,10 +1,11 @@
-// Two functions for a benchmark in another language to call: a layout's reading, and a whole session.
+// Functions for a benchmark in another language to call: a layout's reading, a file's check, and a whole session.
 ghost use mathlib.Core.Path.{_≡_};
 ghost use Rattle.memory_layout.specs.Layout.{layoutOf};
 ghost use mathlib.Core.List.{[], _∷_};
 ghost use lib.ListN.{length};
 ghost use Rattle.start.specs.Start.{beginOf};
-ghost use Rattle.speed.specs.Speed.{layoutNumber, answered, answeredOf, endb, askedOf, ranOf, deviceOf, sessionOf};
+ghost use Rattle.suffix.specs.Suffix.{checkedOf};
+ghost use Rattle.speed.specs.Speed.{layoutNumber, verifiedOf, answered, answeredOf, endb, askedOf, ranOf, deviceOf, sessionOf};
 use functional_descriptor::FunctionalDescriptor;
 use ground::Version;
 use machine::Ask;
@@ -14,6 +15,8 @@ use protocol::DfuProtocol;
 use session::Session;
 use start::DfuSansIo;
 use start::Started;
+use suffix::Checked;
+use suffix::Suffix;
 ghost use Rattle.protocol.specs.declared.DfuProtocol.{DfuProtocol};
 
 // What is added to a refusal's number: 2^63, which no number of pages reaches.
@@ -42,6 +45,26 @@ pub extern "C" fn rt_layout(text: &[u8], store: &mut [u32]) -> u64
 {
     let layout = MemoryLayout::try_from(text, store);
     number(layout)
+}
+
+// How many bytes are firmware, or a refusal.
+fn verified(checked: Checked) -> u64
+    ensures { λ r. ⌜ r ≡ verifiedOf checked ⌝ }
+{
+    let read = checked.suffix;
+    let said = read.said();
+    if said.number == 0 {
+        return checked.firmware as u64;
+    }
+    REFUSED + said.number
+}
+
+// Checks a file by its suffix: how many of its bytes are firmware, or 2^63 plus the number of the refusal.
+#[no_mangle]
+pub extern "C" fn rt_verify(file: &[u8]) -> u64
+    ensures { λ r. ⌜ r ≡ verifiedOf (checkedOf (now (file .entry))) ⌝ }
+{
+    verified(Suffix::check(file))
 }
 
 // A DfuSe session for a device with a transfer size that stays on the bus, its budget as large as can be.

@@ -18,6 +18,9 @@ use Rattle.suffix.proofs.Suffix.firmware.Reads as firmware-reads
 use Rattle.ground.specs.declared.Report.{Report}
 use Rattle.suffix.proofs.Suffix.said.Kinds as said-kinds
 use Rattle.suffix.proofs.Suffix.said.Reads as said-reads
+use Rattle.suffix.specs.declared.Checked.{Checked}
+use Rattle.suffix.proofs.Suffix.check.Kinds as check-kinds
+use Rattle.suffix.proofs.Suffix.check.Reads as check-reads
 
 pub pinned-word-at : Pins word-at-kinds.ps word-at-kinds.r {R = ℕ} word-at-reads.Post (λ κs r s. r)
 pinned-word-at κs a x y s t p q = p ∙ sym q
@@ -31,3 +34,6 @@ pinned-firmware κs a x y s t p q = p ∙ sym q
 
 pub pinned-said : Pins said-kinds.ps said-kinds.r {R = Report} said-reads.Post (λ κs r s. r)
 pinned-said κs a x y s t p q = p ∙ sym q
+
+pub pinned-check : Pins check-kinds.ps check-kinds.r {R = Checked} check-reads.Post (λ κs r s. r)
+pinned-check κs a x y s t p q = p ∙ sym q

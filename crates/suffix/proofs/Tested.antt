@@ -1,6 +1,6 @@
 -- The tests of a file in their order, each with what was found before it. Assumes nothing.
 use Prim.Native.Nat.{ℕ, _-_, _<_, _≤_}
-use mathlib.Core.Path.{_≡_, sym, ap, _∙_}
+use mathlib.Core.Path.{_≡_, refl, sym, ap, _∙_}
 use mathlib.Core.List.{List, [], _∷_}
 use mathlib.Core.Logic.{⊎-elim}
 use mathlib.Core.Bool.{Bool, true, false}
@@ -14,7 +14,7 @@ use Rattle.ground.proofs.Tests.{lt-or-ge}
 use Rattle.papers.specs.Crc.{crcOf}
 use Rattle.suffix.specs.declared.Identities.{Identities}
 use Rattle.suffix.specs.declared.Suffix.{Suffix}
-use Rattle.suffix.specs.Suffix.{lastOf, identitiesOf, suffixOf, partBy, firmwareOf}
+use Rattle.suffix.specs.Suffix.{lastOf, identitiesOf, suffixOf, partBy, lengthBy, firmwareOf, checkedOf}
 
 pub too-short : (f : List ℕ) → length f < 16 → Suffix.FileTooShort ≡ suffixOf f
 unfolding suffixOf
@@ -73,3 +73,22 @@ read-long f e = ⊎-elim (λ l. absurd (let x = too-short f l in let z : _≡_ {
 pub part-is : (f : List ℕ) {r : Suffix} → suffixOf f ≡ r → partBy r f ≡ firmwareOf f
 unfolding firmwareOf
 part-is f e = ap (λ (r : Suffix). partBy r f) (sym e)
+
+-- the firmware part is so many bytes from the start
+pub within : (r : Suffix) (n : ℕ) → lengthBy r n ≤ n
+within (Suffix.Read i c) n = omega arith
+within Suffix.FileTooShort n = omega arith
+within Suffix.NoSignature n = omega arith
+within Suffix.WrongLength n = omega arith
+within Suffix.WrongCrc n = omega arith
+
+by-length : (r : Suffix) (f : List ℕ) → take (lengthBy r (length f)) f ≡ partBy r f
+by-length (Suffix.Read i c) f = refl
+by-length Suffix.FileTooShort f = refl
+by-length Suffix.NoSignature f = refl
+by-length Suffix.WrongLength f = refl
+by-length Suffix.WrongCrc f = refl
+
+pub checked-part : (f : List ℕ) → take (checkedOf f .firmware) f ≡ firmwareOf f
+unfolding firmwareOf
+checked-part f = by-length (suffixOf f) f

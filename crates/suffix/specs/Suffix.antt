@@ -10,6 +10,7 @@ use Rattle.ground.specs.Bytes.{field, prefix}
 use Rattle.papers.specs.Crc.{crcOf}
 use Rattle.suffix.specs.declared.Identities.{Identities}
 use Rattle.suffix.specs.declared.Suffix.{Suffix}
+use Rattle.suffix.specs.declared.Checked.{Checked}
 
 -- the last 16 bytes
 abbrev pub lastOf : List ℕ → List ℕ
@@ -47,6 +48,18 @@ partBy Suffix.WrongCrc file = []
 
 unfoldable pub firmwareOf : List ℕ → List ℕ
 firmwareOf file = partBy (suffixOf file) file
+
+-- how many bytes that are, of a file of so many
+abbrev pub lengthBy : Suffix → ℕ → ℕ
+lengthBy (Suffix.Read identities crc) n = n - 16
+lengthBy Suffix.FileTooShort n = 0
+lengthBy Suffix.NoSignature n = 0
+lengthBy Suffix.WrongLength n = 0
+lengthBy Suffix.WrongCrc n = 0
+
+-- both at once
+abbrev pub checkedOf : List ℕ → Checked
+checkedOf file = record { suffix = suffixOf file; firmware = lengthBy (suffixOf file) (length file) }
 
 -- document 02's number and values for each answer
 abbrev pub saidOf : Suffix → Said

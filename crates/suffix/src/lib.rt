@@ -1,7 +1,7 @@
 // The DFU suffix: the last 16 bytes of a file say whom the firmware before them is for, and end with a CRC over all before it.
 ghost use mathlib.Core.Path.{_≡_};
 ghost use Rattle.ground.specs.Bytes.{field};
-ghost use Rattle.suffix.specs.Suffix.{identitiesOf, suffixOf, firmwareOf, saidOf};
+ghost use Rattle.suffix.specs.Suffix.{identitiesOf, suffixOf, lengthBy, firmwareOf, checkedOf, saidOf};
 ghost use Rattle.ground.specs.Said.{reportOf};
 use ground::Report;
 
@@ -31,6 +31,12 @@ pub enum Suffix {
     // 43: the CRC is not that of the bytes before it
     WrongCrc,
     Read { identities: Identities, crc: u32 },
+}
+
+// What a file is by its suffix, and how many of its first bytes are firmware.
+pub struct Checked {
+    pub suffix: Suffix,
+    pub firmware: usize,
 }
 
 // The four bytes at a place as a number.
@@ -81,18 +87,43 @@ impl Suffix {
         }
     }
 
-    // The firmware part of a file: all before its suffix, and of a file that is refused the empty part at its start.
+    // How many bytes of a file of so many are firmware: all before the suffix, and none of a file that is refused.
+    fn part_length(self, len: usize) -> usize
+        ensures { λ r. ⌜ r ≡ lengthBy self len ⌝ }
+    {
+        match self {
+            Suffix::Read {
+                identities: _,
+                crc: _,
+            } => {
+                if len < LENGTH {
+                    return 0;
+                }
+                len - LENGTH
+            }
+            Suffix::FileTooShort => 0,
+            Suffix::NoSignature => 0,
+            Suffix::WrongLength => 0,
+            Suffix::WrongCrc => 0,
+        }
+    }
+
+    // Suffix and firmware at once: the CRC, which takes nearly all the time, is computed once for both.
+    pub fn check(file: &[u8]) -> Checked
+        ensures { λ r. ⌜ r ≡ checkedOf (now (file .entry)) ⌝ }
+    {
+        let suffix = Suffix::read(file);
+        let firmware = suffix.part_length(file.len());
+        Checked { suffix, firmware }
+    }
+
+    // The firmware part of a file; of a file that is refused the empty part at its start.
     pub fn firmware(file: &[u8]) -> &[u8]
         ensures { λ d. ⌜ now d ≡ firmwareOf (now (file .entry)) ⌝ }
     {
-        let read = Suffix::read(file);
-        match read {
-            Suffix::Read { .. } => &file[..file.len() - LENGTH],
-            Suffix::FileTooShort => &file[..0],
-            Suffix::NoSignature => &file[..0],
-            Suffix::WrongLength => &file[..0],
-            Suffix::WrongCrc => &file[..0],
-        }
+        let checked = Suffix::check(file);
+        let n = checked.firmware;
+        &file[..n]
     }
 }
 

@@ -6,12 +6,12 @@ use Rattle.crc32.proofs.Rule.{rule}
 use Rattle.crc32.proofs.of.Statement.{statement}
 use Rattle.crc32.proofs.of.Tie as tie
 
-update-requires : tie.Need-update-requires
+advance-requires : tie.Need-advance-requires
 unfolding shifted eight
-update-requires c κs = rule _ refl tt
+advance-requires c κs = rule _ refl tt
 
 returns : tie.Need-returns
 returns c = search needs
 
 pub of-spec : {M : Type 1} → statement M
-of-spec = tie.close (tie.spec update-requires returns)
+of-spec = tie.close (tie.spec advance-requires returns)

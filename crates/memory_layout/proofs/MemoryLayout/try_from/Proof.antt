@@ -1,42 +1,73 @@
--- `try_from` meets its contract: what was accepted is stored, and a refusal stores nothing.
-use borrow.Author.Needs.{needs}
+-- `try_from` meets its contract: a text of usual pieces in one pass, any other as before.
+use Prim.Native.Nat.{_≤_}
 use mathlib.Core.Path.{sym, _∙_}
-use Rattle.memory_layout.specs.Layout.{layoutOf}
-use Rattle.memory_layout.proofs.Accepted.{accepted}
+use native.Mathlib.Omega.{arith}
+use Rattle.memory_layout.proofs.Runs.{is-quick, too-long, read-quickly}
+use borrow.Author.Needs.{needs}
 use Rattle.memory_layout.proofs.MemoryLayout.try_from.Statement.{statement}
 use Rattle.memory_layout.proofs.MemoryLayout.try_from.Tie as tie
 
-check-requires : tie.Need-check-requires
-check-requires c κs = search needs
+returns : tie.Need-returns
+returns c = too-long (c .before .before .before .args .src .now) (c .before .before .before .args .store .now) (c .if1 .taken)
 
-enum-known-answer : tie.Need-enum-known-answer
-enum-known-answer c = search needs
+least-requires : tie.Need-least-requires
+least-requires c κs = search needs
 
-store-pages-requires : tie.Need-store-pages-requires
-store-pages-requires c κs = accepted _ _ _ (sym (c .before .before .before .before .check .ensures) ∙ c .before .before .answer .given .1)
+slice-aggregate-read-runs : tie.Need-slice-aggregate-read-runs
+slice-aggregate-read-runs c = search needs
+
+read-runs-requires : tie.Need-read-runs-requires
+read-runs-requires c κs = search needs
+
+enum-known-read : tie.Need-enum-known-read
+enum-known-read c = search needs
+
+slice-aggregate-lay : tie.Need-slice-aggregate-lay
+slice-aggregate-lay c = search needs
+
+lay-requires : tie.Need-lay-requires
+lay-requires c κs =
+    let a = c .before .before .before .before .before .before .before .before .before .before .before .before .args in
+    let u = c .before .before .before .before .before .before .read-runs in
+    let r = is-quick (a .src .now) _ _ _ _ _ (c .before .before .before .read .given .1) (u .ensures) in
+    (r .1, omega (arith, r .3, r .4, c .before .before .before .before .before .before .before .before .least .ensures))
 
 enum-told : tie.Need-enum-told
 enum-told c = search needs
 
+checked-first-requires : tie.Need-checked-first-requires
+checked-first-requires c κs = search needs
+
 same-length : tie.Need-same-length
 same-length c = search needs
 
-returns : tie.Need-returns
-unfolding layoutOf
-returns c = rw (sym (c .before .before .before .before .before .before .before .check .ensures) ∙ c .before .before .before .before .before .answer .given .1) (cc)
-
 returns-2 : tie.Need-returns-2
-unfolding layoutOf
-returns-2 c = rw (sym (c .before .before .check .ensures) ∙ c .enum-told .given .1) (cc)
+returns-2 c =
+    let a = c .before .before .before .before .before .before .before .before .before .before .before .before .before .before .before .args in
+    let u = c .before .before .before .before .before .before .before .before .before .read-runs in
+    let r = is-quick (a .src .now) _ _ _ _ _ (c .before .before .before .before .before .before .read .given .1) (u .ensures) in
+    read-quickly (a .src .now) (a .store .now) _ _ _ _ _ (c .before .before .before .before .before .before .before .before .before .before .before .least .ensures) (c .before .before .before .before .before .before .before .before .before .before .before .before .if1 .left) r (c .before .before .lay .ensures)
+
+same-length-2 : tie.Need-same-length-2
+same-length-2 c = search needs
+
+returns-3 : tie.Need-returns-3
+returns-3 c = search needs
 
 pub try-from-spec : {M : Type 1} → statement M
 try-from-spec =
     tie.close
     (tie.spec
-    check-requires
-    enum-known-answer
-    store-pages-requires
-    enum-told
-    same-length
     returns
-    returns-2)
+    least-requires
+    slice-aggregate-read-runs
+    read-runs-requires
+    enum-known-read
+    slice-aggregate-lay
+    lay-requires
+    enum-told
+    checked-first-requires
+    same-length
+    returns-2
+    same-length-2
+    returns-3)
