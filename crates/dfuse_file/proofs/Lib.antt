@@ -1,3 +1,9 @@
 pub mod Elements
 pub mod Targets
 pub mod File
+pub mod Stretch
+pub mod ElementWalk
+pub mod TargetWalk
+pub mod ImageWalk
+pub mod Tallies
+pub mod Cutting
