@@ -7,3 +7,5 @@ pub mod TargetWalk
 pub mod ImageWalk
 pub mod Tallies
 pub mod Cutting
+pub mod Data
+pub mod Pinned
