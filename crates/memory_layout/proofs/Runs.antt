@@ -1,7 +1,7 @@
 -- A turn of the reader of usual texts: a run more is kept, and the text from its end on is left to read. Assumes nothing.
 use Prim.Native.Nat.{ℕ, _+_, _-_, _*_, _<_, _≤_, min}
 use mathlib.Core.Path.{_≡_, refl, sym, ap, ap₂, _∙_, subst}
-use mathlib.Core.List.{List, [], _++_, append-assoc, append-nil}
+use mathlib.Core.List.{List, _++_, append-assoc, append-nil}
 use native.Mathlib.Omega.{arith}
 use lib.ListN.{length, length-append, drop, set, replicate, length-replicate, length-set}
 use borrow.Author.Tests.{lt-ltb, le-ltb}

@@ -1,6 +1,4 @@
 -- `try_from` meets its contract: a text of usual pieces in one pass, any other as before.
-use Prim.Native.Nat.{_≤_}
-use mathlib.Core.Path.{sym, _∙_}
 use native.Mathlib.Omega.{arith}
 use Rattle.memory_layout.proofs.Runs.{is-quick, too-long, read-quickly}
 use borrow.Author.Needs.{needs}

@@ -1,10 +1,8 @@
 -- `digits` meets its contract: what was passed reads as the value so far.
-use Prim.Native.Nat.{_-_, _<_, _≤_}
-use mathlib.Core.Path.{refl}
+use Prim.Native.Nat.{_-_, _<_}
 use native.Mathlib.Omega.{arith}
 use borrow.Author.Needs.{needs}
 use lib.ListN.{length}
-use Rattle.numeral.specs.Number.{readOn}
 use Rattle.memory_layout.specs.Usual.{ReadAt}
 use Rattle.memory_layout.proofs.OnePass.{grows, nothing-read}
 use Rattle.memory_layout.proofs.usual.digits.Statement.{statement}

@@ -1,9 +1,8 @@
 -- `lay` meets its contract: after each turn the pages of one run more stand at the front.
 use Prim.Native.Nat.{ℕ, _+_, _-_, _*_, _≤_}
-use mathlib.Core.Path.{_≡_, refl, ap, _∙_}
-use mathlib.Core.List.{List, _++_}
+use mathlib.Core.Path.{_≡_, ap, _∙_}
+use mathlib.Core.List.{_++_}
 use native.Mathlib.Omega.{arith}
-use borrow.Author.Needs.{needs}
 use lib.ListN.{length, drop}
 use Rattle.memory_layout.specs.Usual.{laid}
 use Rattle.memory_layout.proofs.Laid.{Placed, none-placed, placed-length, one-placed, grown, next-length}

@@ -1,7 +1,7 @@
 -- `sized` meets its contract: a piece that came through all tests is a usual one.
 use borrow.Author.Tests.{not-false}
-use Prim.Native.Nat.{ℕ, _+_, _<_}
-use mathlib.Core.Path.{_≡_, sym, _∙_}
+use Prim.Native.Nat.{_+_, _<_}
+use mathlib.Core.Path.{sym, _∙_}
 use native.Mathlib.Omega.{arith}
 use Rattle.memory_layout.specs.Usual.{EndsAt}
 use Rattle.memory_layout.proofs.OnePass.{piece-ends, usual-piece}

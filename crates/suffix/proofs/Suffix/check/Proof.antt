@@ -2,7 +2,6 @@
 use Prim.Native.Nat.{ℕ}
 use mathlib.Core.Path.{ap₂, _∙_, ap}
 use lib.ListN.{length}
-use Rattle.suffix.specs.declared.Checked.{Checked}
 use Rattle.suffix.specs.declared.Suffix.{Suffix}
 use Rattle.suffix.specs.Suffix.{lengthBy}
 use borrow.Author.Needs.{needs}

@@ -1,5 +1,4 @@
 -- `firmware` meets its contract: so many bytes from the start.
-use Prim.Native.Nat.{_≤_}
 use mathlib.Core.Path.{sym, ap, _∙_}
 use native.Mathlib.Omega.{arith}
 use lib.ListN.{length, take}
