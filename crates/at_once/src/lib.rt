@@ -1,4 +1,6 @@
 // A device and a host that answer at once: what programs tell a session that runs by itself.
+#![tactic(auto)]
+
 ghost use Rattle.std.specs.Prelude.{◌≡◌};
 ghost use Rattle.session.specs.Calls.{out, call_of};
 ghost use Rattle.plan.specs.Answers.{showing, ideal};

@@ -1,4 +1,6 @@
 // What an update will ask of the device, before it is begun: how many transfers suffice.
+#![tactic(auto)]
+
 ghost use Rattle.std.specs.Prelude.{◌≡◌, true, ◌<◌, ◌≤◌, length};
 ghost use Rattle.start.specs.Start.{dfuseb, overb};
 ghost use Rattle.memory_layout.specs.Layout.{max_pages};
@@ -12,7 +14,7 @@ use start::{DfuSansIo, is_many};
 use work::blocks;
 
 // A budget, or none: start refuses the lengths (1, 22, 29), or the number is no 64-bit count.
-#[derive(Drop)]
+#[derive(Clone, Copy)]
 pub enum Suffices {
     Budget(u64),
     Never,

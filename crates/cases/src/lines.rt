@@ -8,7 +8,7 @@ ghost use Rattle.cases.specs.Lines.{outset, left_of, up_to, adds, kept_of, begun
 use libc::STDIN_FILENO;
 
 // Where the program stands in its input.
-#[derive(Drop)]
+#[derive(Clone, Copy)]
 pub struct Place {
     // What is left of the piece, from..end.
     pub from: usize,

@@ -4,21 +4,21 @@ ghost use Rattle.std.specs.Prelude.{◌≡◌, take};
 ghost use Rattle.cases.specs.Words.{digit_of, pair_of, amount_from, digits_at, number_at, bytes_to, taken, pairs_at, hex_at, last_hex_at, past_at, stored, numbers_at};
 
 // A number.
-#[derive(Drop)]
+#[derive(Clone, Copy)]
 pub enum Amount {
     Bad,
     Read { value: u64, end: usize },
 }
 
 // The bytes of a HEX word, which are the first of a buffer.
-#[derive(Drop)]
+#[derive(Clone, Copy)]
 pub enum Bytes {
     Bad,
     Read { len: usize, end: usize },
 }
 
 // Where something ends that was looked for.
-#[derive(Drop)]
+#[derive(Clone, Copy)]
 pub enum Found {
     Nothing,
     At(usize),

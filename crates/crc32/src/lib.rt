@@ -1,5 +1,7 @@
 // CRC-32 as DFU 1.1's appendix B has it, held to the definition a bit at a time: a byte at a time by a table of 256 words,
 // and where there are many bytes sixteen at a time by sixteen such tables.
+#![tactic(auto)]
+
 ghost use Rattle.std.specs.Prelude.{◌≡◌, ◌+◌, ◌*◌, ◌/◌, ◌%◌, ◌<◌, ◌≤◌, suc, length, take, drop};
 ghost use Rattle.std.specs.Int.Bits.{bit_xor};
 ghost use Rattle.papers.specs.Crc.{eight, crc, crc_of};
@@ -123,8 +125,8 @@ fn four(tables: &[u32; 4096], k: usize, b0: u8, b1: u8, b2: u8, b3: u8, r: u32) 
 fn quad(tables: &[u32; 4096], k: usize, bytes: &[u8], i: usize, r: u32) -> u32
     requires k_bound { k < 13 }
     requires tables { Tables tables.now }
-    requires k_in_bounds { i + 4 + k ≤ length bytes.now }
-    requires r_value { r ≡ crc 0 (take k (drop (i + 4) bytes.now)) }
+    requires in_bytes { i + 4 + k ≤ length bytes.now }
+    requires rest { r ≡ crc 0 (take k (drop (i + 4) bytes.now)) }
     ensures { result ≡ crc 0 (take (k + 4) (drop i bytes.now)) }
 {
     four(
@@ -148,8 +150,8 @@ fn word(b0: u8, b1: u8, b2: u8, b3: u8) -> u32
 // What the register c makes of the sixteen bytes from i; r is what the register 0 makes of the last twelve.
 fn head(tables: &[u32; 4096], c: u32, bytes: &[u8], i: usize, r: u32) -> u32
     requires tables { Tables tables.now }
-    requires i_in_bounds { i + 16 ≤ length bytes.now }
-    requires r_value { r ≡ crc 0 (take 12 (drop (i + 4) bytes.now)) }
+    requires in_bytes { i + 16 ≤ length bytes.now }
+    requires rest { r ≡ crc 0 (take 12 (drop (i + 4) bytes.now)) }
     ensures { result ≡ crc c (take 16 (drop i bytes.now)) }
 {
     let w = c ^ word(bytes[i], bytes[i + 1], bytes[i + 2], bytes[i + 3]);
@@ -167,7 +169,7 @@ fn head(tables: &[u32; 4096], c: u32, bytes: &[u8], i: usize, r: u32) -> u32
 // The register after the sixteen bytes from i.
 fn block(tables: &[u32; 4096], c: u32, bytes: &[u8], i: usize) -> u32
     requires tables { Tables tables.now }
-    requires i_in_bounds { i + 16 ≤ length bytes.now }
+    requires in_bytes { i + 16 ≤ length bytes.now }
     ensures { result ≡ crc c (take 16 (drop i bytes.now)) }
 {
     let z = quad(tables, 0, bytes, i + 12, 0);
@@ -179,7 +181,7 @@ fn block(tables: &[u32; 4096], c: u32, bytes: &[u8], i: usize) -> u32
 // The register after whole blocks.
 fn blocks(tables: &[u32; 4096], bytes: &[u8], start: u32) -> u32
     requires tables { Tables tables.now }
-    requires bytes_len { length bytes.now % 16 ≡ 0 }
+    requires whole_blocks { length bytes.now % 16 ≡ 0 }
     ensures { result ≡ crc start bytes.now }
 {
     let mut c = start;

@@ -1,4 +1,6 @@
 // Shows what the suffix of a firmware file says, or why the file is refused.
+#![tactic(auto)]
+
 mod file;
 mod print;
 mod report;

@@ -1,4 +1,6 @@
 // ST's DfuSe file: an image of targets, each with elements, before DFU 1.1's suffix.
+#![tactic(auto)]
+
 mod walk;
 
 ghost use Rattle.std.specs.Prelude.{◌≡◌, take, drop};
@@ -9,7 +11,7 @@ use suffix::Identities;
 use walk::Survey;
 
 // Why a file is refused: the tests in the order of their numbers, and from 55 on where in the file.
-#[derive(Drop)]
+#[derive(Clone, Copy)]
 pub enum Error {
     // 40 to 43: the suffix's reader refuses the file
     FileTooShort,
@@ -43,7 +45,7 @@ pub enum Error {
 }
 
 // What a file is: how many targets and elements it has, whether its image size counts the suffix, whom it is for, and its CRC.
-#[derive(Drop)]
+#[derive(Clone, Copy)]
 pub enum Dfuse {
     Read {
         targets: u8,
@@ -56,7 +58,7 @@ pub enum Dfuse {
 }
 
 // An element as a part of its file: the index and setting of its target, its address, and where how many bytes of data stand.
-#[derive(Drop)]
+#[derive(Clone, Copy)]
 pub struct Element {
     pub target: u8,
     pub setting: u8,
@@ -67,7 +69,7 @@ pub struct Element {
 
 // A target: its setting, its named flag as it stands, how many elements it has and the index of the first over the whole file,
 // and where in the file the 255 bytes of its name begin.
-#[derive(Drop)]
+#[derive(Clone, Copy)]
 pub struct Target {
     pub setting: u8,
     pub named: u32,
@@ -77,14 +79,14 @@ pub struct Target {
 }
 
 // The element with an index, if there are so many.
-#[derive(Drop)]
+#[derive(Clone, Copy)]
 pub enum OneElement {
     Found(Element),
     Nothing,
 }
 
 // The target with an index, if there are so many.
-#[derive(Drop)]
+#[derive(Clone, Copy)]
 pub enum OneTarget {
     Found(Target),
     Nothing,

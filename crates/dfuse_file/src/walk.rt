@@ -7,7 +7,7 @@ use crate::{Element, Error, Target};
 use suffix::{Identities, Suffix};
 
 // How far the walk has come: how many elements it has met, and of these and the targets the wanted ones.
-#[derive(Drop)]
+#[derive(Clone, Copy)]
 pub struct Tally {
     pub seen: usize,
     pub element: Element,
@@ -15,21 +15,21 @@ pub struct Tally {
 }
 
 // What a walk over elements or targets ends with.
-#[derive(Drop)]
+#[derive(Clone, Copy)]
 pub enum Walked {
     Fine(Tally),
     Fault(Error),
 }
 
 // How many bytes a target's elements take, or why there is no target.
-#[derive(Drop)]
+#[derive(Clone, Copy)]
 pub enum Head {
     Size(u32),
     Fault(Error),
 }
 
 // What the walk over a whole file ends with.
-#[derive(Drop)]
+#[derive(Clone, Copy)]
 pub enum Survey {
     Read {
         targets: u8,

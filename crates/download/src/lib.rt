@@ -1,4 +1,6 @@
 // What a download wants next, and how a command that was taken moves it: download.rs.
+#![tactic(auto)]
+
 ghost use Rattle.std.specs.Prelude.{◌≡◌, ◌-◌, length};
 ghost use Rattle.download.specs.Download.{covering, erase_next, write_next, end_for, next_of, took_of};
 

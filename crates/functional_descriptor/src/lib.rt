@@ -1,4 +1,6 @@
 // The DFU functional descriptor, from its bytes: functional_descriptor.rs.
+#![tactic(auto)]
+
 ghost use Rattle.std.specs.Prelude.{◌≡◌, ◌<◌, length};
 ghost use Rattle.functional_descriptor.specs.Descriptor.{flag, fields_of, descriptor_of, bit_of, said_of};
 ghost use Rattle.ground.specs.Said.{report_of};
@@ -6,7 +8,7 @@ ghost use Rattle.ground.specs.Said.{report_of};
 use ground::{Report, Version};
 
 // What a device says of itself.
-#[derive(Drop)]
+#[derive(Clone, Copy)]
 pub struct FunctionalDescriptor {
     // bitCanDnload
     pub can_download: bool,
@@ -25,7 +27,7 @@ pub struct FunctionalDescriptor {
 }
 
 // What bytes are as a functional descriptor.
-#[derive(Drop)]
+#[derive(Clone, Copy)]
 pub enum Descriptor {
     // Another descriptor, or none.
     NotOne,

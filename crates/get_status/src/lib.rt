@@ -1,4 +1,6 @@
 // States and statuses, a GETSTATUS reply and the judgement of a wait: get_status.rs, and State and Status of lib.rs.
+#![tactic(auto)]
+
 ghost use Rattle.std.specs.Prelude.{◌≡◌, ◌<◌, length};
 ghost use Rattle.get_status.specs.Names.{state_of, state_byte, status_of, status_byte, settled};
 ghost use Rattle.get_status.specs.Reply.{message_of, reply_of, strict_reply_of, judged, said_of, said_met};
@@ -7,7 +9,7 @@ ghost use Rattle.ground.specs.Said.{report_of};
 use ground::Report;
 
 // What a device is doing, DFU 1.1's bState.
-#[derive(Drop)]
+#[derive(Clone, Copy)]
 pub enum State {
     AppIdle,
     AppDetach,
@@ -25,7 +27,7 @@ pub enum State {
 }
 
 // What went wrong last, DFU 1.1's bStatus.
-#[derive(Drop)]
+#[derive(Clone, Copy)]
 pub enum Status {
     Ok,
     ErrTarget,
@@ -48,7 +50,7 @@ pub enum Status {
 }
 
 // A reply to GETSTATUS.
-#[derive(Drop)]
+#[derive(Clone, Copy)]
 pub struct GetStatusMessage {
     pub status: Status,
     // Milliseconds to wait before the next GETSTATUS.
@@ -58,7 +60,7 @@ pub struct GetStatusMessage {
 }
 
 // What bytes are as a reply.
-#[derive(Drop)]
+#[derive(Clone, Copy)]
 pub enum Reply {
     // Refusal 6: fewer than 6 bytes.
     ResponseTooShort { got: usize },
@@ -68,7 +70,7 @@ pub enum Reply {
 }
 
 // What a reply means to a wait for a target state that passes a busy one.
-#[derive(Drop)]
+#[derive(Clone, Copy)]
 pub enum Met {
     Reached,
     Busy { poll_timeout: u32 },

@@ -1,10 +1,12 @@
 // What every other crate stands on: little-endian numbers, a fixed byte string at a field's start, a version.
+#![tactic(auto)]
+
 ghost use Rattle.std.specs.Prelude.{◌≡◌, ◌≤◌, min, take, [], ◌∷◌};
 ghost use Rattle.ground.specs.Bytes.{little_endian_value, field, prefix};
 ghost use Rattle.ground.specs.Said.{says, report_of};
 
 // A major and a minor number, as the Rust's (u8, u8).
-#[derive(Drop)]
+#[derive(Clone, Copy)]
 pub struct Version(pub u8, pub u8);
 
 // Whether a text begins with a fixed byte string.
@@ -77,7 +79,7 @@ pub fn triple_at(s: &[u8], at: usize) -> u32
 }
 
 // What an answer says in document 01's terms: the refusal's number, 0 where it is none, and its values, the first `count` of eight.
-#[derive(Drop)]
+#[derive(Clone, Copy)]
 pub struct Report {
     pub number: u64,
     pub count: usize,

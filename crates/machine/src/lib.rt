@@ -1,4 +1,6 @@
 // What a session does next, whatever its work: what moves of it, by what it is told. synchronous.rs, with the waits of get_status.rs.
+#![tactic(auto)]
+
 pub mod phases;
 pub mod replies;
 mod said;
@@ -8,7 +10,7 @@ use wire::{Command, Request};
 use work::{End, Error, Progress, Wait};
 
 // What a session awaits, or how it ended.
-#[derive(Drop)]
+#[derive(Clone, Copy)]
 pub enum Phase {
     // The reply to the first GETSTATUS.
     First,
@@ -27,7 +29,7 @@ pub enum Phase {
 }
 
 // What moves of a session: the rest is as start fixed it.
-#[derive(Drop)]
+#[derive(Clone, Copy)]
 pub struct Moved {
     pub progress: Progress,
     // What is left of the budget.
@@ -36,7 +38,7 @@ pub struct Moved {
 }
 
 // What the host is asked to do, or told.
-#[derive(Drop)]
+#[derive(Clone, Copy)]
 pub enum Ask {
     Transfer(Request),
     Wait(u32),

@@ -1,4 +1,6 @@
 // A memory layout's text, to page sizes in a lent store: memory_layout.rs.
+#![tactic(auto)]
+
 mod usual;
 
 ghost use Rattle.std.specs.Prelude.{◌≡◌, ◌+◌, ◌^◌, ◌<◌, ◌≤◌, min, ◌++◌, length, take, drop, replicate};
@@ -17,7 +19,7 @@ pub const MAX_PAGES: usize = 4096;
 pub const MAX_TEXT: usize = 1024;
 
 // Why a layout is refused. The first four carry offset and length of the text that the Rust quotes.
-#[derive(Drop)]
+#[derive(Clone, Copy)]
 pub enum Error {
     // 9: a piece without a star
     InvalidPageFormat { at: usize, len: usize },
@@ -36,14 +38,14 @@ pub enum Error {
 }
 
 // How many pages a layout has, or why it is refused.
-#[derive(Drop)]
+#[derive(Clone, Copy)]
 pub enum MemoryLayout {
     Pages(usize),
     Refused(Error),
 }
 
 // What one piece says: so many pages of a size.
-#[derive(Drop)]
+#[derive(Clone, Copy)]
 pub enum Piece {
     Run { count: u32, size: u32 },
     Fault(Error),

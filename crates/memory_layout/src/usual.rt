@@ -5,21 +5,21 @@ ghost use Rattle.memory_layout.specs.Usual.{ScannedAt, CountedAt, EndsAt, UsualA
 use crate::Piece;
 
 // Digits from a place on: their value, and where they stop.
-#[derive(Drop)]
+#[derive(Clone, Copy)]
 pub struct Scanned {
     pub value: u32,
     pub end: usize,
 }
 
 // A usual piece, and where it stops; or another.
-#[derive(Drop)]
+#[derive(Clone, Copy)]
 pub enum Found {
     Run { count: u32, size: u32, end: usize },
     Other,
 }
 
 // A text of usual pieces with room for them: how many pages, and how many runs of pages were kept; or another.
-#[derive(Drop)]
+#[derive(Clone, Copy)]
 pub enum Quick {
     Pages { pages: usize, runs: usize },
     Other,

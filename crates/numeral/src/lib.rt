@@ -1,8 +1,10 @@
 // Numbers in a text, as the Rust's u32::from_str and u32::from_str_radix read them: one reader over the base, and a faster one of decimals.
+#![tactic(auto)]
+
 ghost use Rattle.std.specs.Prelude.{◌≡◌, ◌+◌, ◌≤◌, length, drop, ◌≢◌, slice_index};
 ghost use Rattle.numeral.specs.Number.{digit_of, read_on, number_of};
 
-#[derive(Drop)]
+#[derive(Clone, Copy)]
 pub enum Number {
     Value(u32),
     Bad,

@@ -1,1 +1,2 @@
 // Theorems alone: what the contracts below promise together.
+#![tactic(auto)]

@@ -1,4 +1,6 @@
 // The protocol that a version and an interface string announce, and the detach request: DfuProtocol and detach of lib.rs.
+#![tactic(auto)]
+
 ghost use Rattle.std.specs.Prelude.{◌≡◌};
 ghost use Rattle.protocol.specs.Interface.{place_of, rsplit, address_of, done, dfuse_of, interface_of, refused_by, detach_request, said_protocol, said_refusal, said_of};
 ghost use Rattle.ground.specs.Said.{report_of};
@@ -8,14 +10,14 @@ use memory_layout::{MAX_TEXT, MemoryLayout};
 use numeral::Number;
 
 // The protocol in use. DfuSe's pages stand in the store that was lent for them.
-#[derive(Drop)]
+#[derive(Clone, Copy)]
 pub enum DfuProtocol {
     Dfu,
     Dfuse { address: u32 },
 }
 
 // Why a version or an interface string is refused.
-#[derive(Drop)]
+#[derive(Clone, Copy)]
 pub enum Error {
     // 7
     UnknownProtocol,
@@ -30,14 +32,14 @@ pub enum Error {
 }
 
 // The protocol, with how many pages the store holds for it, or why there is none.
-#[derive(Drop)]
+#[derive(Clone, Copy)]
 pub enum Interface {
     Read { protocol: DfuProtocol, pages: usize },
     Refused(Error),
 }
 
 // A control transfer that carries no data.
-#[derive(Drop)]
+#[derive(Clone, Copy)]
 pub struct UsbWriteControl {
     pub request_type: u8,
     pub request: u8,
@@ -45,14 +47,14 @@ pub struct UsbWriteControl {
 }
 
 // Where the last slash of a text is.
-#[derive(Drop)]
+#[derive(Clone, Copy)]
 pub enum Slash {
     At(usize),
     Nowhere,
 }
 
 // The address between the last two slashes.
-#[derive(Drop)]
+#[derive(Clone, Copy)]
 pub enum Address {
     At(u32),
     NoSlash,

@@ -9,14 +9,14 @@ pub const LONGEST: usize = 4194304;
 pub const SPACE: usize = 4194305;
 
 // How many bytes the file has, or that it was refused; the line is printed already.
-#[derive(Drop)]
+#[derive(Clone, Copy)]
 pub enum File {
     Read(usize),
     Refused,
 }
 
 // What a read brought.
-#[derive(Drop)]
+#[derive(Clone, Copy)]
 struct Piece {
     failed: bool,
     len: usize,

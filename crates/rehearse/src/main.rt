@@ -1,4 +1,6 @@
 // Rehearses an update without a device: what it would erase and send, how many transfers it takes, and how it ends.
+#![tactic(auto)]
+
 mod file;
 mod list;
 mod print;

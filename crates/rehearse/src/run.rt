@@ -5,7 +5,7 @@ use session::{Session, Step};
 use wire::{Command, Request};
 
 // A session, what it says, and what it has asked for so far.
-#[derive(Drop)]
+#[derive(Clone, Copy)]
 pub struct Run {
     pub session: Session,
     pub says: Ask,

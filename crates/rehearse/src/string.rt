@@ -5,7 +5,7 @@ use memory_layout::Error as Fault;
 use protocol::{DfuProtocol, Error, Interface};
 
 // A part of the string, from..to.
-#[derive(Drop)]
+#[derive(Clone, Copy)]
 struct Stretch {
     from: u64,
     to: u64,

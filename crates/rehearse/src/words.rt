@@ -3,7 +3,7 @@ use crate::print;
 use numeral::Number;
 
 // What the words ask for.
-#[derive(Drop)]
+#[derive(Clone, Copy)]
 pub struct Words {
     pub plain: bool,
     pub tolerant: bool,

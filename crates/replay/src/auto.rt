@@ -9,7 +9,7 @@ use work::Wait;
 const MOST_CALLS: u64 = 1000000;
 
 // A word that tells what is awaited: how many busy replies a wait is to have, and how many it still has.
-#[derive(Drop)]
+#[derive(Clone, Copy)]
 struct Auto {
     case: Case,
     each: u64,

@@ -6,7 +6,7 @@ use machine::Ask;
 use session::{Session, Step};
 
 // How many bytes of the firmware, pages and command bytes a call lends.
-#[derive(Drop)]
+#[derive(Clone, Copy)]
 pub struct Lent {
     pub firmware: usize,
     pub pages: usize,
@@ -34,7 +34,7 @@ fn lent_by(lent: Lent, loan: Loan) -> Lent {
     }
 }
 
-#[derive(Drop)]
+#[derive(Clone, Copy)]
 pub struct Case {
     // The session after the last call, or the start, and what that said and lent.
     pub session: Session,

@@ -1,5 +1,5 @@
 // The kinds of lines, by their first word.
-#[derive(Drop)]
+#[derive(Clone, Copy)]
 pub enum Kind {
     // An empty line or a comment.
     Passed,

@@ -59,7 +59,7 @@ fn transfer(t: UsbWriteControl) -> [u64; 3] {
 }
 
 // What a case that lends a page store ends with: how many numbers it lends, and the bytes of its text.
-#[derive(Drop)]
+#[derive(Clone, Copy)]
 enum Lending {
     Bad,
     Read { size: usize, len: usize },
@@ -135,7 +135,7 @@ fn layout_words(m: MemoryLayout, pages: &[u32], out: &mut [u8], at: usize) -> us
 }
 
 // A version, and where the next word starts.
-#[derive(Drop)]
+#[derive(Clone, Copy)]
 enum Versioned {
     Bad,
     Read { version: Version, end: usize },

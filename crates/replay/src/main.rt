@@ -1,4 +1,6 @@
 // Reads cases on standard input, a line each, runs them and writes the transcript on standard output.
+#![tactic(auto)]
+
 mod auto;
 mod begin;
 mod case;

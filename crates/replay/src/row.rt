@@ -4,7 +4,7 @@ use cases::words;
 use cases::words::{Amount, Found};
 
 // How many pages were put into the row, where their word ends, and whether it is one.
-#[derive(Drop)]
+#[derive(Clone, Copy)]
 pub struct Row {
     pub n: usize,
     pub end: usize,
@@ -12,7 +12,7 @@ pub struct Row {
 }
 
 // A run of equal pages.
-#[derive(Drop)]
+#[derive(Clone, Copy)]
 enum Piece {
     Bad,
     Read { count: usize, page: u32, end: usize },

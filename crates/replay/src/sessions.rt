@@ -9,7 +9,7 @@ use cases::{output, words};
 use start::{StartError, Started};
 
 // The words before the pages.
-#[derive(Drop)]
+#[derive(Clone, Copy)]
 struct Plan {
     target: Target,
     size: u16,
@@ -21,7 +21,7 @@ struct Plan {
 }
 
 // A plan, and where the pages start.
-#[derive(Drop)]
+#[derive(Clone, Copy)]
 enum Planned {
     Bad,
     Read { plan: Plan, end: usize },
@@ -169,7 +169,7 @@ fn run(
 }
 
 // A case, and where the words start that it has not been told.
-#[derive(Drop)]
+#[derive(Clone, Copy)]
 struct Walk {
     case: Case,
     from: usize,

@@ -7,7 +7,7 @@ use protocol::DfuProtocol;
 use start::{DfuSansIo, Override};
 
 // Where a download goes.
-#[derive(Drop)]
+#[derive(Clone, Copy)]
 pub struct Target {
     pub dfuse: bool,
     pub address: u32,
@@ -15,7 +15,7 @@ pub struct Target {
 }
 
 // A target, and where the next word starts.
-#[derive(Drop)]
+#[derive(Clone, Copy)]
 pub enum Targeted {
     Bad,
     Read { target: Target, end: usize },

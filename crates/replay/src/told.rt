@@ -3,7 +3,7 @@ use cases::words;
 use cases::words::{Amount, Bytes};
 
 // What a call tells.
-#[derive(Drop)]
+#[derive(Clone, Copy)]
 pub enum Event {
     Count(u64),
     // A reply of the first so many bytes of a buffer, or one of six with a poll time and a state.
@@ -15,14 +15,14 @@ pub enum Event {
 }
 
 // How much of one thing a call lends.
-#[derive(Drop)]
+#[derive(Clone, Copy)]
 pub enum Loan {
     Firmware(usize),
     Pages(usize),
     Command(usize),
 }
 
-#[derive(Drop)]
+#[derive(Clone, Copy)]
 pub enum Word {
     Bad,
     Call(Event),
@@ -35,7 +35,7 @@ pub enum Word {
 }
 
 // A word, and where it ends.
-#[derive(Drop)]
+#[derive(Clone, Copy)]
 pub struct Told {
     pub word: Word,
     pub end: usize,

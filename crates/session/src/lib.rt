@@ -1,4 +1,6 @@
 // A session by value, driven by told answers: synchronous.rs.
+#![tactic(auto)]
+
 pub mod lending;
 pub mod synchronous;
 
@@ -6,7 +8,7 @@ use machine::{Ask, Phase};
 use work::{Progress, Setup};
 
 // A session: it holds its phase, and a waiting phase holds what it waits for.
-#[derive(Drop)]
+#[derive(Clone, Copy)]
 pub struct Session {
     pub setup: Setup,
     pub progress: Progress,
@@ -16,14 +18,14 @@ pub struct Session {
 }
 
 // What a told answer leads to: the next session, and what it says.
-#[derive(Drop)]
+#[derive(Clone, Copy)]
 pub struct Step {
     pub next: Session,
     pub says: Ask,
 }
 
 // Whether a call may go on, or what it is answered at once.
-#[derive(Drop)]
+#[derive(Clone, Copy)]
 pub enum Guard {
     Open,
     Shut(Ask),

@@ -1,4 +1,6 @@
 // Functions for a benchmark in another language to call: a layout's reading, a file's check, and a whole session.
+#![tactic(auto)]
+
 ghost use Rattle.std.specs.Prelude.{◌≡◌, [], ◌∷◌, length};
 ghost use Rattle.memory_layout.specs.Layout.{layout_of};
 ghost use Rattle.start.specs.Start.{begin_of};

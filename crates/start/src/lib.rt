@@ -1,4 +1,6 @@
 // Where a session begins: DfuSansIo of lib.rs, with download as our start.
+#![tactic(auto)]
+
 ghost use Rattle.std.specs.Prelude.{◌≡◌, length};
 ghost use Rattle.start.specs.Start.{new_io, with_address, dfuseb, target_of, fresh, nothingb, beyondb, overb, manyb, begun_of, begin_of, said_start, said_started};
 ghost use Rattle.ground.specs.Said.{report_of};
@@ -13,7 +15,7 @@ use session::Session;
 use work::{End, Progress, Setup, Stage};
 
 // An address in place of the interface string's, if there is one.
-#[derive(Drop)]
+#[derive(Clone, Copy)]
 pub enum Override {
     Nothing,
     Address(u32),
@@ -23,14 +25,14 @@ pub enum Override {
 pub const MAX_BLOCKS: u64 = 65533;
 
 // What sessions are started from.
-#[derive(Drop)]
+#[derive(Clone, Copy)]
 pub struct DfuSansIo {
     pub descriptor: FunctionalDescriptor,
     pub override_address: Override,
 }
 
 // Why no session is started.
-#[derive(Drop)]
+#[derive(Clone, Copy)]
 pub enum StartError {
     // 1: the firmware has 2^32 bytes or more
     OutOfCapabilities,
@@ -44,7 +46,7 @@ pub enum StartError {
     BudgetSpent,
 }
 
-#[derive(Drop)]
+#[derive(Clone, Copy)]
 pub enum Started {
     Session(Session),
     Refused(StartError),

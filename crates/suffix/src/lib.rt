@@ -1,4 +1,6 @@
 // The DFU suffix: the last 16 bytes of a file say whom the firmware before them is for, and end with a CRC over all before it.
+#![tactic(auto)]
+
 ghost use Rattle.std.specs.Prelude.{◌≡◌};
 ghost use Rattle.ground.specs.Bytes.{field};
 ghost use Rattle.suffix.specs.Suffix.{identities_of, suffix_of, length_by, firmware_of, checked_of, said_of};
@@ -10,7 +12,7 @@ use ground::Report;
 pub const LENGTH: usize = 16;
 
 // Whom a file is for.
-#[derive(Drop)]
+#[derive(Clone, Copy)]
 pub struct Identities {
     // bcdDevice
     pub device: u16,
@@ -23,7 +25,7 @@ pub struct Identities {
 }
 
 // What a file is by its suffix.
-#[derive(Drop)]
+#[derive(Clone, Copy)]
 pub enum Suffix {
     // Refusal 40: fewer than 16 bytes.
     FileTooShort,
@@ -37,7 +39,7 @@ pub enum Suffix {
 }
 
 // What a file is by its suffix, and how many of its first bytes are firmware.
-#[derive(Drop)]
+#[derive(Clone, Copy)]
 pub struct Checked {
     pub suffix: Suffix,
     pub firmware: usize,

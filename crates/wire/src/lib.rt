@@ -1,11 +1,13 @@
 // A request on the wire: type, request, value and bytes, and the bytes of a DfuSe command.
+#![tactic(auto)]
+
 ghost use Rattle.std.specs.Prelude.{◌≡◌, ◌+◌, ◌≤◌, [], ◌∷◌, ◌++◌, leb, length, take, drop};
 ghost use Rattle.ground.specs.Pick.{pick};
 ghost use Rattle.ground.specs.Bytes.{bytes_low};
 ghost use Rattle.wire.specs.Wire.{filled_in, request_data, wire_of};
 
 // A download request, by what it means.
-#[derive(Drop)]
+#[derive(Clone, Copy)]
 pub enum Command {
     // Erase the page at a position.
     Erase(u32),
@@ -18,7 +20,7 @@ pub enum Command {
 }
 
 // A control transfer, by what it means.
-#[derive(Drop)]
+#[derive(Clone, Copy)]
 pub enum Request {
     GetStatus,
     ClearStatus,
@@ -26,7 +28,7 @@ pub enum Request {
 }
 
 // A control transfer: so many bytes are taken from the device, or carried to it.
-#[derive(Drop)]
+#[derive(Clone, Copy)]
 pub struct Control {
     pub request_type: u8,
     pub request: u8,

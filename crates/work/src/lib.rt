@@ -1,4 +1,6 @@
 // What every work has: its types, the ledger of accepted bytes with the blocks that are read off it, and what is awaited after a command.
+#![tactic(auto)]
+
 ghost use Rattle.std.specs.Prelude.{◌≡◌, min};
 ghost use Rattle.work.specs.Work.{block_count, number_at, block_length, staged as stagedAs, entered, wait_after, whole_of, takenb, said_error};
 ghost use Rattle.ground.specs.Said.{report_of};
@@ -8,7 +10,7 @@ use ground::Report;
 use wire::Command;
 
 // Why a session says no.
-#[derive(Drop)]
+#[derive(Clone, Copy)]
 pub enum Error {
     // 2
     InvalidState { got: State, expected: State },
@@ -33,7 +35,7 @@ pub enum Error {
 }
 
 // Which part of the download is next.
-#[derive(Drop)]
+#[derive(Clone, Copy)]
 pub enum Stage {
     Erasing,
     Writing,
@@ -41,7 +43,7 @@ pub enum Stage {
 }
 
 // What start fixes.
-#[derive(Drop)]
+#[derive(Clone, Copy)]
 pub struct Setup {
     pub dfuse: bool,
     // DfuSe's target address; 0 for plain DFU.
@@ -57,7 +59,7 @@ pub struct Setup {
 }
 
 // What moves.
-#[derive(Drop)]
+#[derive(Clone, Copy)]
 pub struct Progress {
     pub stage: Stage,
     // The position up to which pages were erased, and the index of the next page.
@@ -68,21 +70,21 @@ pub struct Progress {
 }
 
 // A wait for a target state that passes a busy one: the pause before a look, and the look.
-#[derive(Drop)]
+#[derive(Clone, Copy)]
 pub enum Wait {
     Pause { busy: State, target: State, ms: u32 },
     Poll { busy: State, target: State },
 }
 
 // How a session finished.
-#[derive(Drop)]
+#[derive(Clone, Copy)]
 pub enum End {
     Stays,
     Reset,
 }
 
 // What is wanted next: a command, with the progress once it is issued; to end, and how; or a refusal.
-#[derive(Drop)]
+#[derive(Clone, Copy)]
 pub enum Todo {
     Send { command: Command, then: Progress },
     End(End),
