@@ -4,12 +4,11 @@ use mathlib.Core.Path.{◌≡◌, refl, sym, ap, ◌∙◌}
 use mathlib.Core.Bool.{Bool, true, false}
 use mathlib.Core.List.{List, [], ◌∷◌}
 use native.Mathlib.Omega.{arith}
-use types.Run.{OneOf, miss}
-use denote.Enum.Declared.{tag_of}
 use lib.Dec.{eqb, ltb}
 use lib.ListN.{length}
 use borrow.Author.Tests.{ltb-false}
 use Rattle.ground.specs.Pick.{pick}
+use Rattle.wire.specs.declared.Command.{Command}
 use Rattle.work.specs.declared.Setup.{Setup}
 use Rattle.work.specs.declared.Progress.{Progress}
 use Rattle.work.specs.Work.{Work}
@@ -18,7 +17,6 @@ use Rattle.work.specs.declared.Error.{Error}
 use Rattle.download.specs.Download.{download}
 use Rattle.machine.specs.declared.Ask.{Ask}
 use Rattle.machine.specs.declared.Phase.{Phase}
-use Rattle.machine.specs.contracts.Phase.{the_type}
 use Rattle.machine.specs.Machine.{refuse, asks_at, liveb, pausing}
 use Rattle.session.specs.declared.Session.{Session}
 use Rattle.session.specs.declared.Step.{Step}
@@ -28,47 +26,47 @@ use Rattle.session.specs.declared.Guard.{Guard}
 
 -- a kind of answer that a live phase doesn't await
 module _ (w : Work) (su : Setup) (pr : Progress) (l : ℕ) where
-  pub no_count : (n : ℕ) (p : Phase) → liveb p ≡ true → OneOf (0 ∷ 2 ∷ 4 ∷ 5 ∷ 6 ∷ 7 ∷ []) (tag_of the_type p) → told_at w su pr l p (count n) ≡ stay (mk su pr l p) Error.NotAwaited
-  no_count n Phase.First h k = refl
-  no_count n Phase.Clear h k = absurd (miss (0 ∷ 2 ∷ 4 ∷ 5 ∷ 6 ∷ 7 ∷ []) 1 tt k)
-  no_count n Phase.Second h k = refl
-  no_count n (Phase.Sent c) h k = absurd (miss (0 ∷ 2 ∷ 4 ∷ 5 ∷ 6 ∷ 7 ∷ []) 3 tt k)
-  no_count n (Phase.Waiting (Wait.Pause b t ms)) h k = refl
-  no_count n (Phase.Waiting (Wait.Poll b t)) h k = refl
-  no_count n Phase.Resetting h k = refl
-  no_count n (Phase.Finished e) h k = absurd (let z : ◌≡◌ {A = ℕ} 0 1 = cc in omega arith)
-  no_count n (Phase.Refused e) h k = absurd (let z : ◌≡◌ {A = ℕ} 0 1 = cc in omega arith)
+  pub no_count : (n : ℕ) (p : Phase) → liveb p ≡ true → (p ≡ Phase.Clear → ⊥) → ((c : Command) → p ≡ Phase.Sent c → ⊥) → told_at w su pr l p (count n) ≡ stay (mk su pr l p) Error.NotAwaited
+  no_count n Phase.First h k j = refl
+  no_count n Phase.Clear h k j = absurd (k refl)
+  no_count n Phase.Second h k j = refl
+  no_count n (Phase.Sent c) h k j = absurd (j _ refl)
+  no_count n (Phase.Waiting (Wait.Pause b t ms)) h k j = refl
+  no_count n (Phase.Waiting (Wait.Poll b t)) h k j = refl
+  no_count n Phase.Resetting h k j = refl
+  no_count n (Phase.Finished e) h k j = absurd (let z : ◌≡◌ {A = ℕ} 0 1 = cc in omega arith)
+  no_count n (Phase.Refused e) h k j = absurd (let z : ◌≡◌ {A = ℕ} 0 1 = cc in omega arith)
 
-  pub no_wait : (p : Phase) → liveb p ≡ true → OneOf (0 ∷ 1 ∷ 2 ∷ 3 ∷ 5 ∷ 6 ∷ 7 ∷ []) (tag_of the_type p) → told_at w su pr l p waited ≡ stay (mk su pr l p) Error.NotAwaited
+  pub no_wait : (p : Phase) → liveb p ≡ true → ((x : Wait) → p ≡ Phase.Waiting x → ⊥) → told_at w su pr l p waited ≡ stay (mk su pr l p) Error.NotAwaited
   no_wait Phase.First h k = refl
   no_wait Phase.Clear h k = refl
   no_wait Phase.Second h k = refl
   no_wait (Phase.Sent c) h k = refl
-  no_wait (Phase.Waiting x) h k = absurd (miss (0 ∷ 1 ∷ 2 ∷ 3 ∷ 5 ∷ 6 ∷ 7 ∷ []) 4 tt k)
+  no_wait (Phase.Waiting x) h k = absurd (k _ refl)
   no_wait Phase.Resetting h k = refl
   no_wait (Phase.Finished e) h k = absurd (let z : ◌≡◌ {A = ℕ} 0 1 = cc in omega arith)
   no_wait (Phase.Refused e) h k = absurd (let z : ◌≡◌ {A = ℕ} 0 1 = cc in omega arith)
 
-  pub no_reset : (p : Phase) → liveb p ≡ true → OneOf (0 ∷ 1 ∷ 2 ∷ 3 ∷ 4 ∷ 6 ∷ 7 ∷ []) (tag_of the_type p) → told_at w su pr l p was_reset ≡ stay (mk su pr l p) Error.NotAwaited
+  pub no_reset : (p : Phase) → liveb p ≡ true → (p ≡ Phase.Resetting → ⊥) → told_at w su pr l p was_reset ≡ stay (mk su pr l p) Error.NotAwaited
   no_reset Phase.First h k = refl
   no_reset Phase.Clear h k = refl
   no_reset Phase.Second h k = refl
   no_reset (Phase.Sent c) h k = refl
   no_reset (Phase.Waiting (Wait.Pause b t ms)) h k = refl
   no_reset (Phase.Waiting (Wait.Poll b t)) h k = refl
-  no_reset Phase.Resetting h k = absurd (miss (0 ∷ 1 ∷ 2 ∷ 3 ∷ 4 ∷ 6 ∷ 7 ∷ []) 5 tt k)
+  no_reset Phase.Resetting h k = absurd (k refl)
   no_reset (Phase.Finished e) h k = absurd (let z : ◌≡◌ {A = ℕ} 0 1 = cc in omega arith)
   no_reset (Phase.Refused e) h k = absurd (let z : ◌≡◌ {A = ℕ} 0 1 = cc in omega arith)
 
-  pub no_reply : (bs : List ℕ) (p : Phase) → liveb p ≡ true → OneOf (1 ∷ 3 ∷ 5 ∷ 6 ∷ 7 ∷ []) (tag_of the_type p) → told_at w su pr l p (reply bs) ≡ stay (mk su pr l p) Error.NotAwaited
-  no_reply bs Phase.First h k = absurd (miss (1 ∷ 3 ∷ 5 ∷ 6 ∷ 7 ∷ []) 0 tt k)
-  no_reply bs Phase.Clear h k = refl
-  no_reply bs Phase.Second h k = absurd (miss (1 ∷ 3 ∷ 5 ∷ 6 ∷ 7 ∷ []) 2 tt k)
-  no_reply bs (Phase.Sent c) h k = refl
-  no_reply bs (Phase.Waiting x) h k = absurd (miss (1 ∷ 3 ∷ 5 ∷ 6 ∷ 7 ∷ []) 4 tt k)
-  no_reply bs Phase.Resetting h k = refl
-  no_reply bs (Phase.Finished e) h k = absurd (let z : ◌≡◌ {A = ℕ} 0 1 = cc in omega arith)
-  no_reply bs (Phase.Refused e) h k = absurd (let z : ◌≡◌ {A = ℕ} 0 1 = cc in omega arith)
+  pub no_reply : (bs : List ℕ) (p : Phase) → liveb p ≡ true → (p ≡ Phase.First → ⊥) → (p ≡ Phase.Second → ⊥) → ((x : Wait) → p ≡ Phase.Waiting x → ⊥) → told_at w su pr l p (reply bs) ≡ stay (mk su pr l p) Error.NotAwaited
+  no_reply bs Phase.First h k j i = absurd (k refl)
+  no_reply bs Phase.Clear h k j i = refl
+  no_reply bs Phase.Second h k j i = absurd (j refl)
+  no_reply bs (Phase.Sent c) h k j i = refl
+  no_reply bs (Phase.Waiting x) h k j i = absurd (i _ refl)
+  no_reply bs Phase.Resetting h k j i = refl
+  no_reply bs (Phase.Finished e) h k j i = absurd (let z : ◌≡◌ {A = ℕ} 0 1 = cc in omega arith)
+  no_reply bs (Phase.Refused e) h k j i = absurd (let z : ◌≡◌ {A = ℕ} 0 1 = cc in omega arith)
 
   -- a failure: 24 in a pause, else 26
   pub no_failure : (p : Phase) → pausing p ≡ true → told_at w su pr l p failed ≡ stay (mk su pr l p) Error.NotAwaited
