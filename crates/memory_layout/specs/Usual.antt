@@ -1,5 +1,5 @@
 -- What the reader of usual texts answers: of any other text it says nothing.
-use Rattle.std.specs.Prelude.{◌≡◌, ℕ, zero, suc, ◌+◌, ◌-◌, ◌*◌, ◌<◌, ◌≤◌, List, [], ◌++◌, length, drop, replicate, ◌≢◌, slice_index, slice_range}
+use Rattle.std.specs.Prelude.{◌≡◌, ℕ, zero, suc, ◌+◌, ◌*◌, ◌<◌, ◌≤◌, List, [], ◌++◌, length, drop, replicate, ◌≢◌, slice_index, slice_range}
 use Rattle.numeral.specs.Number.{read_on}
 use Rattle.numeral.specs.declared.Number.{Number}
 use Rattle.memory_layout.specs.declared.MemoryLayout.{MemoryLayout}
