@@ -1,13 +1,14 @@
--- The reader against DFU 1.1's appendix B, both ways: what the appendix lays out is read, and nothing else is. Assumes nothing.
+-- The reader against DFU 1.1's appendix B: its fields under our names, and that nothing is read but what the appendix lays out.
+-- That all of that is read stands in AppendixRead. Assumes nothing.
 use Prim.Native.Nat.{ℕ, zero, suc, ◌+◌, ◌-◌, ◌*◌, ◌/◌, ◌%◌, ◌<◌}
 use mathlib.Core.Path.{◌≡◌, refl, sym, ap, ap₂, subst, ◌∙◌}
 use mathlib.Core.List.{List, [], ◌∷◌, ◌++◌}
 use mathlib.Core.Bool.{Bool}
 use native.Mathlib.Omega.{arith}
 use lib.ListN.{length, take, drop, get_or, drop_of_length-le, length-append, length-drop, take-append-drop}
-use lib.Seq.{drop-cons, take-append-add, drop-append_seam, take-append_seam}
+use lib.Seq.{drop-cons, take-append-add}
 use lib.Dec.{eqb}
-use borrow.Author.Tests.{le-ltb, eq-eqb, eqb-true}
+use borrow.Author.Tests.{le-ltb, eqb-true}
 use Rattle.ground.specs.Pick.{pick}
 use Rattle.ground.specs.Text.{codes}
 use Rattle.ground.specs.Bytes.{little_endian_value, field, prefix, Bytes}
@@ -27,49 +28,6 @@ named i = record { device = i.bcd_device; product = i.id_product; vendor = i.id_
 
 abbrev pub ids_of : Identities → Ids
 ids_of i = record { bcd_device = i.device; id_product = i.product; id_vendor = i.vendor; bcd_dfu = i.dfu_version }
-
-pair : (n : ℕ) → (0 * 256 + n / 256) * 256 + n % 256 ≡ n
-pair n = omega arith
-
-quad : (n : ℕ) → (((0 * 256 + n / 16777216) * 256 + n / 65536 % 256) * 256 + n / 256 % 256) * 256 + n % 256 ≡ n
-quad n = omega arith
-
--- the last 16 bytes that the appendix lays out
-last_read_lem : (i : Ids) (c : ℕ) (before : List ℕ) → crc_of before ≡ c → last_read (opening i ++ four c) before ≡ Suffix.Read (named i) c
-unfolding codes prefix field little_endian_value
-last_read_lem i c before e =
-    simp (pair i.bcd_device, pair i.id_product, pair i.id_vendor, pair i.bcd_dfu, quad c, eq-eqb c (crc_of before) (sym e))
-
-module _ (fw : List ℕ) (i : Ids) where
-  long : length (file_of fw i) ≡ length fw + 16
-  long = length-append fw (opening i ++ four (dw_crc fw i))
-
-  last : last_of (file_of fw i) ≡ opening i ++ four (dw_crc fw i)
-  last =
-      let e : length (file_of fw i) - 16 ≡ length fw = omega (arith, long) in
-      ap (λ (n : ℕ). drop n (file_of fw i)) e ∙ drop-append_seam fw (opening i ++ four (dw_crc fw i))
-
-  before : take (length (file_of fw i) - 4) (file_of fw i) ≡ fw ++ opening i
-  before =
-      let e : length (file_of fw i) - 4 ≡ length fw + 12 = omega (arith, long) in
-      ap (λ (n : ℕ). take n (file_of fw i)) e ∙ take-append-add fw (opening i ++ four (dw_crc fw i)) 12
-
-  -- WHAT THE APPENDIX LAYS OUT IS READ, with its identities and its CRC ..
-  pub reads_the_appendix : suffix_of (file_of fw i) ≡ Suffix.Read (named i) (dw_crc fw i)
-  unfolding suffix_of
-  reads_the_appendix =
-      ap (λ (t : Bool). pick t Suffix.FileTooShort (last_read (last_of (file_of fw i)) (take (length (file_of fw i) - 4) (file_of fw i))))
-      (le-ltb (length (file_of fw i)) 16 (omega (arith, long)))
-      ∙ ap₂ last_read last before
-      ∙ last_read_lem i (dw_crc fw i) (fw ++ opening i) refl
-
-  -- .. and its firmware
-  pub hands_the_firmware : firmware_of (file_of fw i) ≡ fw
-  hands_the_firmware =
-      let e : length (file_of fw i) - 16 ≡ length fw = omega (arith, long) in
-      sym (part_is (file_of fw i) reads_the_appendix)
-      ∙ ap (λ (n : ℕ). take n (file_of fw i)) e
-      ∙ take-append_seam fw (opening i ++ four (dw_crc fw i))
 
 -- so many elements from a place on, one by one
 abbrev each : List ℕ → ℕ → ℕ → List ℕ

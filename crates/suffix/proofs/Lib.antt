@@ -1,5 +1,6 @@
 pub mod Words
 pub mod Tested
 pub mod Appendix
+pub mod AppendixRead
 pub mod Damage
 pub mod Pinned
