@@ -1,5 +1,5 @@
 -- A report loses nothing of what is said: the values that count are those. Assumes nothing.
-use Prim.Native.Nat.{ℕ, ◌-◌}
+use Prim.Native.Nat.{◌-◌}
 use mathlib.Core.Path.{◌≡◌}
 use lib.ListN.{length, take, replicate}
 use lib.Seq.{take-append_seam}

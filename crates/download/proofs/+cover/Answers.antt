@@ -20,7 +20,7 @@ pub overflow_add-result : goal.overflow_add-result
 overflow_add-result t c =
     let ps = c.args.pages.now in
     let sum : 1 + c.cover.result ≡ length (covering c.args.left ps) =
-      ap (λ (n : ℕ). 1 + n) (c.cover.ensures ∙ ap (λ (n : ℕ). length (covering n (take (length ps - 1) (drop 1 ps)))) c.beyond-rest.ensures)
-      ∙ step c.args.left ps c.if-left-eq0.false (omega arith)
+    ap (λ (n : ℕ). 1 + n) (c.cover.ensures ∙ ap (λ (n : ℕ). length (covering n (take (length ps - 1) (drop 1 ps)))) c.beyond-rest.ensures)
+    ∙ step c.args.left ps c.if-left-eq0.false (omega arith)
     in
     omega (arith, sum, bounded c.args.left ps)
