@@ -6,7 +6,6 @@ use Rattle.numeral.proofs.few_digits.Goals as goal
 pub loop-i-init : goal.loop-i-init
 loop-i-init c = (omega arith, none (c.args.from - c.args.from), same _ 0 (omega arith))
 
-
 pub returns-then-d-gt9 : goal.returns-then-d-gt9
 returns-then-d-gt9 c =
     let s = c.args.s.now in
