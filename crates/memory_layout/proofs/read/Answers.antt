@@ -29,8 +29,8 @@ slice_bounds-read_piece-end c =
     let l = c.bytes in
     omega (arith, c.find-e.ensures, end_from 44 s l.i, end_in 44 s l.i l.invariant.1)
 
-pub read_piece-p-requires-clause-star_within : goal.read_piece-p-requires-clause-star_within
-read_piece-p-requires-clause-star_within c =
+pub read_piece-p-requires-clause-star_in_bounds : goal.read_piece-p-requires-clause-star_in_bounds
+read_piece-p-requires-clause-star_in_bounds c =
     let s = c.args.text.now in
     let a = c.pieces.a in
     let l = c.bytes in

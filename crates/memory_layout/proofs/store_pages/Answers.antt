@@ -36,8 +36,8 @@ overflow_sub-star c =
     let h = star (min (length g.store.now) max_pages) s l.a l.k g.n l.invariant.3 in
     omega (arith, c.find-star.ensures, end_from 42 s l.a)
 
-pub read_piece-p-requires-clause-star_within : goal.read_piece-p-requires-clause-star_within
-read_piece-p-requires-clause-star_within c =
+pub read_piece-p-requires-clause-star_in_bounds : goal.read_piece-p-requires-clause-star_in_bounds
+read_piece-p-requires-clause-star_in_bounds c =
     let g = c.args in
     let l = c.loop-count in
     let s = g.text.now in
