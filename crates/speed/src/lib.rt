@@ -1,4 +1,4 @@
-// Functions for a benchmark in another language to call: a layout's reading, a file's check, and a whole session.
+// What a benchmark in another language calls, by the crate speed_c: a layout's reading, a file's check, and a whole session.
 #![tactic(auto)]
 
 ghost use Rattle.std.specs.Prelude.{◌≡◌, [], ◌∷◌, length};
@@ -37,8 +37,7 @@ fn number(layout: MemoryLayout) -> u64
 }
 
 // Reads a layout's text into a store: how many pages it has, or 2^63 plus the number of the refusal.
-#[unsafe(no_mangle)]
-pub extern "C" fn rt_layout(text: &[u8], store: &mut [u32]) -> u64
+pub fn rt_layout(text: &[u8], store: &mut [u32]) -> u64
     ensures { answered result store.new ≡ answered_of (layout_of text.now store.old) }
 {
     let layout = MemoryLayout::try_from(text, store);
@@ -58,8 +57,7 @@ fn verified(checked: Checked) -> u64
 }
 
 // Checks a file by its suffix: how many of its bytes are firmware, or 2^63 plus the number of the refusal.
-#[unsafe(no_mangle)]
-pub extern "C" fn rt_verify(file: &[u8]) -> u64
+pub fn rt_verify(file: &[u8]) -> u64
     ensures { result ≡ verified_of (checked_of file.now) }
 {
     verified(Suffix::check(file))
@@ -132,8 +130,7 @@ fn run(session: Session, firmware: &[u8], pages: &[u32]) -> u64
 }
 
 // A whole DfuSe session against a device that answers at once: how many transfers it asked. 0 if start refuses or a refusal came.
-#[unsafe(no_mangle)]
-pub extern "C" fn rt_session(firmware: &[u8], pages: &[u32], address: u32, size: u16) -> u64
+pub fn rt_session(firmware: &[u8], pages: &[u32], address: u32, size: u16) -> u64
     ensures { result ≡ session_of firmware.now pages.now address size }
 {
     let started = started(firmware, pages, address, size);
