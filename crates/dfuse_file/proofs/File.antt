@@ -22,7 +22,7 @@ use Rattle.suffix.proofs.Appendix.{named, ids_of, reads_the_appendix, hands_the_
 use Rattle.dfuse_file.specs.declared.Error.{Error}
 use Rattle.papers.proofs.Fours.{four_field, field_four, field_drop}
 use Rattle.papers.specs.Um0391.{Target, sz_dfu_se, targets_of, image_size, image_of, Named, dfuse_of}
-use Rattle.dfuse_file.specs.Reading.{Got, Took, No, fits, targets_in, image_in, Held, Holds, Not, held, whole, by_suffix, dfuse_in}
+use Rattle.dfuse_file.specs.Reading.{Got, Took, No, fits, targets_in, image_in, Held, Holds, Not, held, by_suffix, dfuse_in}
 use Rattle.dfuse_file.proofs.Targets.{reads_targets, only_targets, LaidOut}
 
 -- the image size, read

@@ -115,8 +115,8 @@ fn came(file: &[u8], at: usize, index: u8, wanted: usize, t: Tally) -> Tally
 
 // The prefix of a target at a place, of which no byte is at `end` or after it.
 fn target_head(file: &[u8], at: usize, end: usize) -> Head
-    requires fact_1 { at ≤ end }
-    requires fact_2 { end ≤ length file.now }
+    requires start_le_end { at ≤ end }
+    requires end_in_bounds { end ≤ length file.now }
     ensures { result ≡ head_in at (between file.now at end) }
 {
     if end - at < 274 {
@@ -141,9 +141,9 @@ fn walk_elements(
     wanted: usize,
     tally: Tally,
 ) -> Walked
-    requires fact_1 { at + 274 ≤ end }
-    requires fact_2 { end ≤ length file.now }
-    requires fact_3 { tally.seen ≤ at }
+    requires prefix_in_bounds { at + 274 ≤ end }
+    requires end_in_bounds { end ≤ length file.now }
+    requires seen_le_at { tally.seen ≤ at }
     ensures { result ≡ walked_in file.now target at end wanted tally }
 {
     let setting = file[at + 6];
@@ -182,8 +182,8 @@ fn walk_elements(
 
 // The n targets of an image that ends at a place.
 fn walk_targets(file: &[u8], n: u8, end: usize, wanted: usize) -> Walked
-    requires fact_1 { 11 ≤ end }
-    requires fact_2 { end ≤ length file.now }
+    requires prefix_in_bounds { 11 ≤ end }
+    requires end_in_bounds { end ≤ length file.now }
     ensures { result ≡ walked_all wanted 0 fresh 11 (targets_in n 11 (between file.now 11 end)) }
 {
     let mut p: usize = 11;

@@ -103,7 +103,7 @@ fn scale(count: u32, size: u32, unit: u8, at: usize) -> Piece
 
 // A piece whose first star stands at a place of it; it starts at an offset of the text.
 fn read_piece(p: &[u8], star: usize, at: usize) -> Piece
-    requires star_within { star < length p.now }
+    requires star_in_bounds { star < length p.now }
     requires end_fits { at + length p.now < 2 ^ 64 }
     ensures { result ≡ starred (take star p.now) (drop (star + 1) p.now) at }
 {

@@ -1,5 +1,5 @@
 -- What a version and an interface string announce: document 01, 'The interface string'.
-use Rattle.std.specs.Prelude.{ℕ, List, [], ◌∷◌, length, drop, eqb, ltb}
+use Rattle.std.specs.Prelude.{ℕ, List, [], ◌∷◌, length, drop, ◌==◌, nat_lt}
 use Rattle.ground.specs.Pick.{pick}
 use Rattle.ground.specs.Said.{Said, says}
 use Rattle.ground.specs.Bytes.{prefix}
@@ -21,7 +21,7 @@ pub data Cut : Type 0 where
   cut : List ℕ → List ℕ → Cut
 
 abbrev pub grown : ℕ → List ℕ → Cut → Cut
-grown c cs whole = pick (eqb c 47) (cut [] cs) whole
+grown c cs whole = pick (c == 47) (cut [] cs) whole
 grown c cs (cut rest tail) = cut (c ∷ rest) tail
 
 unfoldable pub rsplit : List ℕ → Cut
@@ -74,10 +74,10 @@ dfuse_of (cut rest layout) store = leaves (answered (checked (length store) layo
 -- (1, 0x10) is plain DFU, the string unread; (1, 0x1a) is DfuSe, a string over 1,024 bytes being 20; others are 7
 unfoldable pub interface_of : List ℕ → Version → List ℕ → Done
 interface_of s version store =
-    pick (eqb version.0 1)
-    (pick (eqb version.1 0x10) (done (Interface.Read DfuProtocol.Dfu 0) store)
-    (pick (eqb version.1 0x1a)
-    (pick (ltb max_text (length s)) (done (Interface.Refused Error.TextTooLong) store) (dfuse_of (rsplit s) store))
+    pick (version.0 == 1)
+    (pick (version.1 == 0x10) (done (Interface.Read DfuProtocol.Dfu 0) store)
+    (pick (version.1 == 0x1a)
+    (pick (nat_lt max_text (length s)) (done (Interface.Refused Error.TextTooLong) store) (dfuse_of (rsplit s) store))
     (done (Interface.Refused Error.UnknownProtocol) store)))
     (done (Interface.Refused Error.UnknownProtocol) store)
 

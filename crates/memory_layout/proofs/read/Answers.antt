@@ -29,8 +29,8 @@ slice_bounds-read_piece-end c =
     let l = c.bytes in
     omega (arith, c.find-e.ensures, end_from 44 s l.i, end_in 44 s l.i l.invariant.1)
 
-pub read_piece-p-requires-clause-star_within : goal.read_piece-p-requires-clause-star_within
-read_piece-p-requires-clause-star_within c =
+pub read_piece-p-requires-clause-star_in_bounds : goal.read_piece-p-requires-clause-star_in_bounds
+read_piece-p-requires-clause-star_in_bounds c =
     let s = c.args.text.now in
     let a = c.pieces.a in
     let l = c.bytes in
@@ -54,11 +54,11 @@ pieces-preserved c =
     let h : l.i < length s = omega arith in
     let e = c.find-e in
     let star = c.if-b-eq42.true in
-    let this = here s o.a l.i e.result c.read_piece-p.result (l.invariant.3 ∙ stop_at 42 s l.i h star) (found s o.a l.i h l.invariant.2 l.invariant.3 star) (e.ensures ∙ sym l.invariant.2) c.read_piece-p.ensures in
+    let this = here s o.a l.i e.result _ (l.invariant.3 ∙ stop_at 42 s l.i h star) (found s o.a l.i h l.invariant.2 l.invariant.3 star) (e.ensures ∙ sym l.invariant.2) c.in-Run.ensures in
     let q : e.result < length s = omega (arith, e.ensures, end_in 44 s l.i l.invariant.1) in (
       omega arith,
       omega arith,
-      sym (onward g.room s o.a o.n _ _ (this ∙ c.in-Run.is) (omega arith) e.result (e.ensures ∙ sym l.invariant.2) q) ∙ o.invariant.2,
+      sym (onward g.room s o.a o.n _ _ this (omega arith) e.result (e.ensures ∙ sym l.invariant.2) q) ∙ o.invariant.2,
     )
 
 pub returns-then-i-text : goal.returns-then-i-text
@@ -87,8 +87,8 @@ returns-in-Fault c =
     let h : l.i < length s = omega arith in
     let e = c.find-e in
     let star = c.if-b-eq42.true in
-    let this = here s o.a l.i e.result c.read_piece-p.result (l.invariant.3 ∙ stop_at 42 s l.i h star) (found s o.a l.i h l.invariant.2 l.invariant.3 star) (e.ensures ∙ sym l.invariant.2) c.read_piece-p.ensures in
-    sym (fault g.room s o.a o.n _ (this ∙ c.in-Fault.is)) ∙ o.invariant.2
+    let this = here s o.a l.i e.result _ (l.invariant.3 ∙ stop_at 42 s l.i h star) (found s o.a l.i h l.invariant.2 l.invariant.3 star) (e.ensures ∙ sym l.invariant.2) c.in-Fault.ensures in
+    sym (fault g.room s o.a o.n _ this) ∙ o.invariant.2
 
 pub returns-then-room-n : goal.returns-then-room-n
 returns-then-room-n c =
@@ -99,8 +99,8 @@ returns-then-room-n c =
     let h : l.i < length s = omega arith in
     let e = c.find-e in
     let star = c.if-b-eq42.true in
-    let this = here s o.a l.i e.result c.read_piece-p.result (l.invariant.3 ∙ stop_at 42 s l.i h star) (found s o.a l.i h l.invariant.2 l.invariant.3 star) (e.ensures ∙ sym l.invariant.2) c.read_piece-p.ensures in
-    sym (full g.room s o.a o.n _ _ (this ∙ c.in-Run.is) (omega arith)) ∙ o.invariant.2
+    let this = here s o.a l.i e.result _ (l.invariant.3 ∙ stop_at 42 s l.i h star) (found s o.a l.i h l.invariant.2 l.invariant.3 star) (e.ensures ∙ sym l.invariant.2) c.in-Run.ensures in
+    sym (full g.room s o.a o.n _ _ this (omega arith)) ∙ o.invariant.2
 
 pub returns-then-e-text : goal.returns-then-e-text
 returns-then-e-text c =
@@ -111,5 +111,5 @@ returns-then-e-text c =
     let h : l.i < length s = omega arith in
     let e = c.find-e in
     let star = c.if-b-eq42.true in
-    let this = here s o.a l.i e.result c.read_piece-p.result (l.invariant.3 ∙ stop_at 42 s l.i h star) (found s o.a l.i h l.invariant.2 l.invariant.3 star) (e.ensures ∙ sym l.invariant.2) c.read_piece-p.ensures in
-    sym (last g.room s o.a o.n _ _ (this ∙ c.in-Run.is) (omega arith) o.invariant.0 (l.invariant.2 ∙ sym e.ensures ∙ c.if-e-text.true)) ∙ o.invariant.2
+    let this = here s o.a l.i e.result _ (l.invariant.3 ∙ stop_at 42 s l.i h star) (found s o.a l.i h l.invariant.2 l.invariant.3 star) (e.ensures ∙ sym l.invariant.2) c.in-Run.ensures in
+    sym (last g.room s o.a o.n _ _ this (omega arith) o.invariant.0 (l.invariant.2 ∙ sym e.ensures ∙ c.if-e-text.true)) ∙ o.invariant.2

@@ -12,7 +12,6 @@ slice_bounds-read_piece-count c =
     let g = c.args in
     let l = c.loop-count in
     let s = g.text.now in
-    let h = star (min (length g.store.now) max_pages) s l.a l.k g.n l.invariant.3 in
     omega (arith, c.find-e.ensures, end_from 44 s l.a, end_in 44 s l.a l.invariant.1)
 
 pub slice_bounds-read_piece-start : goal.slice_bounds-read_piece-start
@@ -20,7 +19,6 @@ slice_bounds-read_piece-start c =
     let g = c.args in
     let l = c.loop-count in
     let s = g.text.now in
-    let h = star (min (length g.store.now) max_pages) s l.a l.k g.n l.invariant.3 in
     omega (arith, c.find-e.ensures, end_from 44 s l.a, end_in 44 s l.a l.invariant.1)
 
 pub slice_bounds-read_piece-end : goal.slice_bounds-read_piece-end
@@ -28,7 +26,6 @@ slice_bounds-read_piece-end c =
     let g = c.args in
     let l = c.loop-count in
     let s = g.text.now in
-    let h = star (min (length g.store.now) max_pages) s l.a l.k g.n l.invariant.3 in
     omega (arith, c.find-e.ensures, end_from 44 s l.a, end_in 44 s l.a l.invariant.1)
 
 pub overflow_sub-star : goal.overflow_sub-star
@@ -39,8 +36,8 @@ overflow_sub-star c =
     let h = star (min (length g.store.now) max_pages) s l.a l.k g.n l.invariant.3 in
     omega (arith, c.find-star.ensures, end_from 42 s l.a)
 
-pub read_piece-p-requires-clause-star_within : goal.read_piece-p-requires-clause-star_within
-read_piece-p-requires-clause-star_within c =
+pub read_piece-p-requires-clause-star_in_bounds : goal.read_piece-p-requires-clause-star_in_bounds
+read_piece-p-requires-clause-star_in_bounds c =
     let g = c.args in
     let l = c.loop-count in
     let s = g.text.now in
@@ -56,8 +53,8 @@ returns-in_default c =
     let m = min (length g.store.now) max_pages in
     let h = star m s l.a l.k g.n l.invariant.3 in
     let e = c.find-e in
-    let this = here s l.a c.find-star.result e.result c.read_piece-p.result (sym c.find-star.ensures) h e.ensures c.read_piece-p.ensures in
-    absurd (no_fault m s l.a l.k g.n l.invariant.3 _ (this ∙ c.in_default.is))
+    let this = here s l.a c.find-star.result e.result _ (sym c.find-star.ensures) h e.ensures c.in_default.ensures in
+    absurd (no_fault m s l.a l.k g.n l.invariant.3 _ this)
 
 pub fill-requires : goal.fill-requires
 fill-requires c =
@@ -67,8 +64,8 @@ fill-requires c =
     let m = min (length g.store.now) max_pages in
     let h = star m s l.a l.k g.n l.invariant.3 in
     let e = c.find-e in
-    let this = here s l.a c.find-star.result e.result c.read_piece-p.result (sym c.find-star.ensures) h e.ensures c.read_piece-p.ensures in
-    let w = space m s l.a l.k g.n l.invariant.3 _ _ (this ∙ c.in-Run.is) in
+    let this = here s l.a c.find-star.result e.result _ (sym c.find-star.ensures) h e.ensures c.in-Run.ensures in
+    let w = space m s l.a l.k g.n l.invariant.3 _ _ this in
     omega arith
 
 pub loop-count-smaller : goal.loop-count-smaller
@@ -76,10 +73,8 @@ loop-count-smaller c =
     let g = c.args in
     let l = c.loop-count in
     let s = g.text.now in
-    let m = min (length g.store.now) max_pages in
-    let h = star m s l.a l.k g.n l.invariant.3 in
+    let h = star (min (length g.store.now) max_pages) s l.a l.k g.n l.invariant.3 in
     let e = c.find-e in
-    let this = here s l.a c.find-star.result e.result c.read_piece-p.result (sym c.find-star.ensures) h e.ensures c.read_piece-p.ensures in
     omega (arith, e.ensures, end_from 44 s l.a, end_in 44 s l.a l.invariant.1)
 
 pub loop-count-preserved : goal.loop-count-preserved
@@ -90,10 +85,9 @@ loop-count-preserved c =
     let m = min (length g.store.now) max_pages in
     let h = star m s l.a l.k g.n l.invariant.3 in
     let e = c.find-e in
-    let this = here s l.a c.find-star.result e.result c.read_piece-p.result (sym c.find-star.ensures) h e.ensures c.read_piece-p.ensures in
+    let run = here s l.a c.find-star.result e.result _ (sym c.find-star.ensures) h e.ensures c.in-Run.ensures in
     let count = c.in-Run.count in
     let size = c.in-Run.size in
-    let run = this ∙ c.in-Run.is in
     let w = space m s l.a l.k g.n l.invariant.3 count size run in
     let f = c.fill.ensures in
     let t : l.k + count ≤ length l.store = omega arith in
@@ -118,10 +112,9 @@ returns c =
     let m = min (length g.store.now) max_pages in
     let h = star m s l.a l.k g.n l.invariant.3 in
     let e = c.find-e in
-    let this = here s l.a c.find-star.result e.result c.read_piece-p.result (sym c.find-star.ensures) h e.ensures c.read_piece-p.ensures in
+    let run = here s l.a c.find-star.result e.result _ (sym c.find-star.ensures) h e.ensures c.in-Run.ensures in
     let count = c.in-Run.count in
     let size = c.in-Run.size in
-    let run = this ∙ c.in-Run.is in
     let w = space m s l.a l.k g.n l.invariant.3 count size run in
     let f = c.fill.ensures in
     let t : l.k + count ≤ length l.store = omega arith in

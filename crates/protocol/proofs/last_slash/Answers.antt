@@ -3,7 +3,7 @@ use Prim.Native.Nat.{ℕ, ◌+◌, ◌-◌}
 use mathlib.Core.Path.{◌≡◌, sym, ap, ◌∙◌}
 use native.Mathlib.Omega.{arith}
 use lib.ListN.{drop}
-use Rattle.protocol.specs.Interface.{rsplit, place_of}
+use Rattle.protocol.specs.Interface.{rsplit}
 use Rattle.protocol.proofs.Cuts.{end, pass, found}
 use Rattle.protocol.proofs.last_slash.Goals as goal
 
@@ -21,9 +21,3 @@ loop-i-preserved c =
     let l = c.loop-i in
     let n : l.i ≡ l.i - 1 + 1 = omega arith in
     (omega arith, pass s (l.i - 1) (omega arith) c.if-s-i-eq47.false (sym (ap (λ (k : ℕ). rsplit (drop k s)) n) ∙ l.invariant.1))
-
-pub returns : goal.returns
-returns c =
-    let s = c.args.s.now in
-    let z : 0 ≡ c.loop-i.i = omega arith in
-    sym (ap (λ (k : ℕ). place_of (rsplit (drop k s))) z ∙ ap place_of c.loop-i.invariant.1)

@@ -1,5 +1,5 @@
 -- `read_runs` meets its contract: each turn keeps a run more.
-use Rattle.std.proofs.Common.{◌*◌, arith, length-set}
+use Rattle.std.proofs.Common.{arith, length-set}
 use Rattle.memory_layout.proofs.Runs.{is_run, nothing_kept, long, within, places, next_run, last_run}
 use Rattle.memory_layout.proofs.usual.read_runs.Goals as goal
 
@@ -18,7 +18,8 @@ bounds-runs-k-in-loop-count c =
     let a = c.args in
     let l = c.loop-count in
     let r = is_run a.text.now l.a _ _ _ _ c.in-Run.is c.piece_at-piece.ensures in
-    omega (arith, places a.text.now a.room l.runs l.a l.n l.k _ _ _ l.invariant r.0 r.1 c.requires.0, l.invariant.2, length-set l.runs (2 * l.k) c.in-Run.count)
+    let p = places a.text.now a.room l.runs l.a l.n l.k _ _ _ l.invariant r.0 r.1 c.requires.0 in
+    grind (arith, length-set)
 
 pub returns-then-end-text : goal.returns-then-end-text
 returns-then-end-text c =
