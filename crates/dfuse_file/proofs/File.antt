@@ -18,7 +18,8 @@ use Rattle.suffix.proofs.Tested.{part_is}
 use Rattle.suffix.specs.declared.Identities.{Identities}
 use Rattle.suffix.specs.declared.Suffix.{Suffix}
 use Rattle.suffix.specs.Suffix.{suffix_of, firmware_of}
-use Rattle.suffix.proofs.Appendix.{named, ids_of, reads_the_appendix, hands_the_firmware, only_the_appendix, only_the_appendix_crc}
+use Rattle.suffix.proofs.Appendix.{named, ids_of, only_the_appendix, only_the_appendix_crc}
+use Rattle.suffix.proofs.AppendixRead.{reads_the_appendix, hands_the_firmware}
 use Rattle.dfuse_file.specs.declared.Error.{Error}
 use Rattle.papers.proofs.Fours.{four_field, field_four, field_drop}
 use Rattle.papers.specs.Um0391.{Target, sz_dfu_se, targets_of, image_size, image_of, Named, dfuse_of}
