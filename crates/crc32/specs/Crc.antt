@@ -1,11 +1,11 @@
 -- The tables: one that takes eight bits at a time, and sixteen that take as many bytes.
-use Rattle.std.specs.Prelude.{ℕ, zero, suc, ◌+◌, ◌/◌, ◌%◌, ◌<◌, ◌≡◌, List, get_or}
+use Rattle.std.specs.Prelude.{ℕ, zero, suc, ◌+◌, ◌/◌, ◌%◌, ◌<◌, ◌≡◌, List, slice_index}
 use Rattle.std.specs.Int.Bits.{bit_xor}
 use Rattle.papers.specs.Crc.{eight}
 
 -- the table's rule: at each byte, what eight bits make of it
 unfoldable pub Table : List ℕ → Type 0
-Table words = (x : ℕ) → x < 256 → get_or words x 0 ≡ eight x
+Table words = (x : ℕ) → x < 256 → slice_index words x ≡ eight x
 
 -- eight bits, k times
 unfoldable pub eights : ℕ → ℕ → ℕ
@@ -14,7 +14,7 @@ eights (suc k) c = eight (eights k c)
 
 -- tables one after the other, laid out up to the place n: table k has at x what eight bits, k + 1 times, make of x
 unfoldable pub Laid : List ℕ → ℕ → Type 0
-Laid words n = (j : ℕ) → j < n → get_or words j 0 ≡ eights (suc (j / 256)) (j % 256)
+Laid words n = (j : ℕ) → j < n → slice_index words j ≡ eights (suc (j / 256)) (j % 256)
 
 -- sixteen tables
 abbrev pub Tables : List ℕ → Type 0

@@ -1,5 +1,5 @@
 -- The elements and the targets of a file as parts of it, in the file's order.
-use Rattle.std.specs.Prelude.{ℕ, ◌+◌, List, [], ◌∷◌, ◌++◌, length, take, drop, get_or, eqb, ltb}
+use Rattle.std.specs.Prelude.{ℕ, ◌+◌, List, [], ◌∷◌, ◌++◌, length, take, drop, ◌==◌, nat_lt, slice_index_or}
 use Rattle.ground.specs.Pick.{pick}
 use Rattle.papers.specs.Um0391 as paper
 use Rattle.papers.specs.Um0391.{elements_of}
@@ -53,7 +53,7 @@ abbrev pub blank_element : Element
 blank_element = record { target = 0; setting = 0; address = 0; place = 0; size = 0 }
 
 abbrev pub one_element : ℕ → List Element → OneElement
-one_element i es = pick (ltb i (length es)) (OneElement.Found (get_or es i blank_element)) OneElement.Nothing
+one_element i es = pick (nat_lt i (length es)) (OneElement.Found (slice_index_or es i blank_element)) OneElement.Nothing
 
 unfoldable pub element_at : ℕ → List ℕ → OneElement
 element_at i f = one_element i (elements_held (dfuse_in f))
@@ -62,7 +62,7 @@ abbrev pub blank_target : Target
 blank_target = record { setting = 0; named = 0; elements = 0; first = 0; place = 0 }
 
 abbrev pub one_target : ℕ → List Target → OneTarget
-one_target i ts = pick (ltb i (length ts)) (OneTarget.Found (get_or ts i blank_target)) OneTarget.Nothing
+one_target i ts = pick (nat_lt i (length ts)) (OneTarget.Found (slice_index_or ts i blank_target)) OneTarget.Nothing
 
 unfoldable pub target_at : ℕ → List ℕ → OneTarget
 target_at i f = one_target i (targets_held (dfuse_in f))
@@ -78,7 +78,7 @@ part_at i f = part_of f (element_at i f)
 -- a name: all before the first zero
 unfoldable pub name_in : List ℕ → List ℕ
 name_in [] = []
-name_in (b ∷ bs) = pick (eqb b 0) [] (b ∷ name_in bs)
+name_in (b ∷ bs) = pick (b == 0) [] (b ∷ name_in bs)
 
 abbrev pub name_of : List ℕ → OneTarget → List ℕ
 name_of f (OneTarget.Found t) = name_in (take 255 (drop t.place f))

@@ -1,5 +1,5 @@
 -- What a DfuSe file holds, or why it is refused: the tests stand in the order of their numbers, and the first that fails is the answer.
-use Rattle.std.specs.Prelude.{ℕ, zero, suc, ◌+◌, ◌-◌, List, [], ◌∷◌, Bool, true, length, take, drop, get_or, eqb, ltb}
+use Rattle.std.specs.Prelude.{ℕ, zero, suc, ◌+◌, ◌-◌, List, [], ◌∷◌, Bool, true, length, take, drop, ◌==◌, nat_lt, slice_index}
 use Rattle.ground.specs.Pick.{pick}
 use Rattle.ground.specs.Bytes.{field, prefix}
 use Rattle.papers.specs.Um0391.{Element, Target, sz_target, sz_dfu_se}
@@ -20,41 +20,41 @@ more x (No e) = No e
 
 -- n elements fill the bytes s of a target, which begin at a place of the file
 unfoldable pub elements_in : ℕ → ℕ → List ℕ → Got Element
-elements_in zero at s = pick (eqb (length s) 0) (Took []) (No (Error.TargetNotFilled at))
+elements_in zero at s = pick (length s == 0) (Took []) (No (Error.TargetNotFilled at))
 elements_in (suc n) at s =
-    pick (ltb (length s) 8) (No (Error.ElementTooShort at))
-    (pick (ltb (length s - 8) (field 4 4 s)) (No (Error.ElementTooLong at))
+    pick (nat_lt (length s) 8) (No (Error.ElementTooShort at))
+    (pick (nat_lt (length s - 8) (field 4 4 s)) (No (Error.ElementTooLong at))
     (more (record { dw_element_address = field 0 4 s; Data = take (field 4 4 s) (drop 8 s) })
     (elements_in n (at + (8 + field 4 4 s)) (drop (8 + field 4 4 s) s))))
 
 -- a target with the bytes s from its prefix on, its elements, and the targets after it
 abbrev pub joined : List ℕ → Got Element → Got Target → Got Target
 joined s (Took es) g =
-    more (record { b_alternate_setting = get_or s 6 0; b_target_named = field 7 4 s; sz_target_name = take 255 (drop 11 s); elements = es }) g
+    more (record { b_alternate_setting = slice_index s 6; b_target_named = field 7 4 s; sz_target_name = take 255 (drop 11 s); elements = es }) g
 joined s (No e) g = No e
 
 -- n targets fill the bytes s before the suffix, which begin at a place of the file
 unfoldable pub targets_in : ℕ → ℕ → List ℕ → Got Target
-targets_in zero at s = pick (eqb (length s) 0) (Took []) (No (Error.ImageNotFilled at))
+targets_in zero at s = pick (length s == 0) (Took []) (No (Error.ImageNotFilled at))
 targets_in (suc n) at s =
-    pick (ltb (length s) 274) (No (Error.TargetTooShort at))
+    pick (nat_lt (length s) 274) (No (Error.TargetTooShort at))
     (pick (prefix sz_target s)
-    (pick (ltb (length s - 274) (field 266 4 s)) (No (Error.TargetTooLong at))
+    (pick (nat_lt (length s - 274) (field 266 4 s)) (No (Error.TargetTooLong at))
     (joined s (elements_in (field 270 4 s) (at + 274) (take (field 266 4 s) (drop 274 s)))
     (targets_in n (at + (274 + field 266 4 s)) (drop (274 + field 266 4 s) s))))
     (No (Error.NoTarget at)))
 
 -- an image size is the length of what stands before the suffix, or with the suffix
 abbrev pub fits : ℕ → ℕ → Bool
-fits size long = pick (eqb size long) true (eqb size (long + 16))
+fits size long = pick (size == long) true (size == (long + 16))
 
 -- all before the suffix
 unfoldable pub image_in : List ℕ → Got Target
 image_in s =
-    pick (ltb (length s) 11) (No Error.ImageTooShort)
+    pick (nat_lt (length s) 11) (No Error.ImageTooShort)
     (pick (prefix sz_dfu_se s)
-    (pick (eqb (get_or s 5 0) 1)
-    (pick (fits (field 6 4 s) (length s)) (targets_in (get_or s 10 0) 11 (drop 11 s)) (No Error.WrongImageSize))
+    (pick (slice_index s 5 == 1)
+    (pick (fits (field 6 4 s) (length s)) (targets_in (slice_index s 10) 11 (drop 11 s)) (No Error.WrongImageSize))
     (No Error.WrongVersion))
     (No Error.NoPrefix))
 
@@ -68,7 +68,7 @@ held counted i crc (Took ts) = Holds counted i crc ts
 held counted i crc (No e) = Not e
 
 abbrev pub whole : Identities → ℕ → List ℕ → Held
-whole i crc s = pick (eqb i.dfu_version 0x011A) (held (eqb (field 6 4 s) (length s + 16)) i crc (image_in s)) (Not Error.NotDfuse)
+whole i crc s = pick (i.dfu_version == 0x011A) (held (field 6 4 s == (length s + 16)) i crc (image_in s)) (Not Error.NotDfuse)
 
 -- the suffix's refusals first: a file is trusted before it is read
 abbrev pub by_suffix : Suffix → List ℕ → Held

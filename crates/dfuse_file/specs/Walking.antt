@@ -1,5 +1,5 @@
 -- What the walk over a file keeps: how many elements it has met, and the element and the target with the wanted index.
-use Rattle.std.specs.Prelude.{ℕ, ◌+◌, ◌-◌, List, [], ◌∷◌, length, take, drop, get_or, eqb, ltb}
+use Rattle.std.specs.Prelude.{ℕ, ◌+◌, ◌-◌, List, [], ◌∷◌, length, take, drop, ◌==◌, nat_lt, slice_index}
 use Rattle.ground.specs.Pick.{pick}
 use Rattle.ground.specs.Bytes.{field, prefix}
 use Rattle.papers.specs.Um0391 as paper
@@ -24,7 +24,7 @@ fresh = record { seen = 0; element = blank_element; target = blank_target }
 
 -- an element is met
 abbrev pub met_of : Tally → ℕ → Element → Tally
-met_of t wanted e = record { seen = t.seen + 1; element = pick (eqb t.seen wanted) e t.element; target = t.target }
+met_of t wanted e = record { seen = t.seen + 1; element = pick (t.seen == wanted) e t.element; target = t.target }
 
 unfoldable pub met_all : ℕ → Tally → List Element → Tally
 met_all wanted t [] = t
@@ -32,19 +32,19 @@ met_all wanted t (e ∷ es) = met_all wanted (met_of t wanted e) es
 
 -- a target is come to
 abbrev pub came_of : Tally → ℕ → ℕ → Target → Tally
-came_of t wanted index u = record { seen = t.seen; element = t.element; target = pick (eqb index wanted) u t.target }
+came_of t wanted index u = record { seen = t.seen; element = t.element; target = pick (index == wanted) u t.target }
 
 -- the target whose prefix begins at a place of a file
 abbrev pub target_in : List ℕ → ℕ → ℕ → Target
 target_in f at first =
-    record { setting = get_or f (at + 6) 0; named = field (at + 7) 4 f; elements = field (at + 270) 4 f; first = first; place = at + 11 }
+    record { setting = slice_index f (at + 6); named = field (at + 7) 4 f; elements = field (at + 270) 4 f; first = first; place = at + 11 }
 
 -- its prefix's tests, 55 to 57
 abbrev pub head_in : ℕ → List ℕ → Head
 head_in at s =
-    pick (ltb (length s) 274) (Head.Fault (Error.TargetTooShort at))
+    pick (nat_lt (length s) 274) (Head.Fault (Error.TargetTooShort at))
     (pick (prefix sz_target s)
-    (pick (ltb (length s - 274) (field 266 4 s)) (Head.Fault (Error.TargetTooLong at)) (Head.Size (field 266 4 s)))
+    (pick (nat_lt (length s - 274) (field 266 4 s)) (Head.Fault (Error.TargetTooLong at)) (Head.Size (field 266 4 s)))
     (Head.Fault (Error.NoTarget at)))
 
 -- the walk over a target's elements
@@ -54,7 +54,7 @@ walked_of index setting wanted t at (No e) = Walked.Fault e
 
 abbrev pub walked_in : List ℕ → ℕ → ℕ → ℕ → ℕ → Tally → Walked
 walked_in f index at end wanted t =
-    walked_of index (get_or f (at + 6) 0) wanted t (at + 274) (elements_in (field (at + 270) 4 f) (at + 274) (between f (at + 274) end))
+    walked_of index (slice_index f (at + 6)) wanted t (at + 274) (elements_in (field (at + 270) 4 f) (at + 274) (between f (at + 274) end))
 
 -- and over targets
 unfoldable pub tallied_all : ℕ → ℕ → Tally → ℕ → List paper.Target → Tally

@@ -1,5 +1,5 @@
 -- The download as work: document 01, 'One session, step by step'.
-use Rattle.std.specs.Prelude.{ℕ, zero, suc, ◌+◌, ◌-◌, List, [], ◌∷◌, ltb, length, get_or}
+use Rattle.std.specs.Prelude.{ℕ, zero, suc, ◌+◌, ◌-◌, List, [], ◌∷◌, length, nat_lt, slice_index}
 use Rattle.ground.specs.Pick.{pick}
 use Rattle.wire.specs.declared.Command.{Command}
 use Rattle.work.specs.declared.End.{End}
@@ -23,10 +23,10 @@ passed pr p = record { stage = Stage.Erasing; erased = pr.erased + p; page = pr.
 -- while the erased position is below the target's end: no page left is 5, position plus page at 2^32 or more is 4, else erase; then set the address
 unfoldable pub erase_next : List ℕ → Setup → Progress → Todo
 erase_next ps su pr =
-    pick (ltb pr.erased (end_of su))
-    (pick (ltb pr.page (length ps))
-    (pick (ltb (pr.erased + get_or ps pr.page 0) limit)
-    (Todo.Send (Command.Erase pr.erased) (passed pr (get_or ps pr.page 0)))
+    pick (nat_lt pr.erased (end_of su))
+    (pick (nat_lt pr.page (length ps))
+    (pick (nat_lt (pr.erased + slice_index ps pr.page) limit)
+    (Todo.Send (Command.Erase pr.erased) (passed pr (slice_index ps pr.page)))
     (Todo.Refuse Error.EraseLimitReached))
     (Todo.Refuse Error.NoSpaceLeft))
     (Todo.Send (Command.SetAddress su.address) (staged Stage.Writing pr))
@@ -34,7 +34,7 @@ erase_next ps su pr =
 -- the next unaccepted bytes; the ledger waits for their count; with nothing left, one empty block
 unfoldable pub write_next : Setup → Progress → Todo
 write_next su pr =
-    pick (ltb pr.accepted su.length)
+    pick (nat_lt pr.accepted su.length)
     (Todo.Send (Command.Block (number_at su pr.accepted) pr.accepted (block_length su pr.accepted)) (staged Stage.Writing pr))
     (Todo.Send (Command.Empty (number_at su pr.accepted)) (staged Stage.Ending pr))
 

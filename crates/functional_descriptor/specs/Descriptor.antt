@@ -1,5 +1,5 @@
 -- What bytes are as a functional descriptor: document 01, 'Descriptor and reply'.
-use Rattle.std.specs.Prelude.{ℕ, ◌/◌, ◌%◌, List, [], ◌∷◌, Bool, length, get_or, eqb, ltb}
+use Rattle.std.specs.Prelude.{ℕ, ◌/◌, ◌%◌, List, [], ◌∷◌, Bool, length, ◌==◌, nat_lt, slice_index}
 use Rattle.ground.specs.Pick.{pick}
 use Rattle.ground.specs.Said.{Said, says}
 use Rattle.ground.specs.Bytes.{field}
@@ -8,26 +8,26 @@ use Rattle.functional_descriptor.specs.declared.Descriptor.{Descriptor}
 
 -- whether the bit of a weight is set
 abbrev pub flag : ℕ → ℕ → Bool
-flag weight b = eqb (b / weight % 2) 1
+flag weight b = (b / weight % 2) == 1
 
 -- byte 2 bits 0 to 3; bytes 3-4 detach timeout, 5-6 transfer size; byte 7 minor, byte 8 major
 abbrev pub fields_of : List ℕ → FunctionalDescriptor
 fields_of bs = record {
-  can_download = flag 1 (get_or bs 2 0);
-  can_upload = flag 2 (get_or bs 2 0);
-  manifestation_tolerant = flag 4 (get_or bs 2 0);
-  will_detach = flag 8 (get_or bs 2 0);
+  can_download = flag 1 (slice_index bs 2);
+  can_upload = flag 2 (slice_index bs 2);
+  manifestation_tolerant = flag 4 (slice_index bs 2);
+  will_detach = flag 8 (slice_index bs 2);
   detach_timeout = field 3 2 bs;
   transfer_size = field 5 2 bs;
-  dfu_version = record { 0 = get_or bs 8 0; 1 = get_or bs 7 0 };
+  dfu_version = record { 0 = slice_index bs 8; 1 = slice_index bs 7 };
 }
 
 -- fewer than 2 bytes, or byte 1 not 0x21: not one; then fewer than 9: too short
 abbrev pub descriptor_of : List ℕ → Descriptor
 descriptor_of bs =
-    pick (ltb (length bs) 2) Descriptor.NotOne
-    (pick (eqb (get_or bs 1 0) 0x21)
-    (pick (ltb (length bs) 9) (Descriptor.DataTooShort (length bs)) (Descriptor.Read (fields_of bs)))
+    pick (nat_lt (length bs) 2) Descriptor.NotOne
+    (pick (slice_index bs 1 == 0x21)
+    (pick (nat_lt (length bs) 9) (Descriptor.DataTooShort (length bs)) (Descriptor.Read (fields_of bs)))
     Descriptor.NotOne)
 
 abbrev pub bit_of : Bool → ℕ

@@ -1,5 +1,5 @@
 -- The names of states and statuses: document 01, 'Descriptor and reply'; the numbers are DFU 1.1's.
-use Rattle.std.specs.Prelude.{ℕ, List, [], ◌∷◌, get_or}
+use Rattle.std.specs.Prelude.{ℕ, List, [], ◌∷◌, slice_index_or}
 use Rattle.get_status.specs.declared.State.{State}
 use Rattle.get_status.specs.declared.Status.{Status}
 
@@ -20,7 +20,7 @@ state_names =
     ∷ []
 
 abbrev pub state_of : ℕ → State
-state_of b = get_or state_names b (State.Other b)
+state_of b = slice_index_or state_names b (State.Other b)
 
 abbrev pub state_byte : State → ℕ
 state_byte State.AppIdle = 0
@@ -58,7 +58,7 @@ status_names =
     ∷ []
 
 abbrev pub status_of : ℕ → Status
-status_of b = get_or status_names b (Status.Other b)
+status_of b = slice_index_or status_names b (Status.Other b)
 
 abbrev pub status_byte : Status → ℕ
 status_byte Status.Ok = 0x00

@@ -1,5 +1,5 @@
 -- What bytes are as a reply to GETSTATUS, and what a reply means to a wait: document 01, 'Descriptor and reply' and 'One session'.
-use Rattle.std.specs.Prelude.{ℕ, List, [], ◌∷◌, length, get_or, eqb, ltb}
+use Rattle.std.specs.Prelude.{ℕ, List, [], ◌∷◌, length, ◌==◌, nat_lt, slice_index}
 use Rattle.ground.specs.Pick.{pick}
 use Rattle.ground.specs.Said.{Said, says}
 use Rattle.ground.specs.Bytes.{field}
@@ -12,21 +12,21 @@ use Rattle.get_status.specs.declared.Met.{Met}
 -- byte 0 status, 1-3 poll milliseconds, 4 state, 5 string index
 abbrev pub message_of : List ℕ → GetStatusMessage
 message_of bs = record {
-  status = status_of (get_or bs 0 0);
+  status = status_of (slice_index bs 0);
   poll_timeout = field 1 3 bs;
-  state = settled (state_of (get_or bs 4 0));
-  index = get_or bs 5 0;
+  state = settled (state_of (slice_index bs 4));
+  index = slice_index bs 5;
 }
 
 -- fewer than 6 bytes is refused; the rest is ignored
 abbrev pub reply_of : List ℕ → Reply
-reply_of bs = pick (ltb (length bs) 6) (Reply.ResponseTooShort (length bs)) (Reply.Read (message_of bs))
+reply_of bs = pick (nat_lt (length bs) 6) (Reply.ResponseTooShort (length bs)) (Reply.Read (message_of bs))
 
 -- read strictly, a status other than 0 is refused and carried; the length is tested before it, no state is
 abbrev pub strict : Reply → Reply
 strict (Reply.ResponseTooShort got) = Reply.ResponseTooShort got
 strict (Reply.StatusError status) = Reply.StatusError status
-strict (Reply.Read m) = pick (eqb (status_byte m.status) 0) (Reply.Read m) (Reply.StatusError m.status)
+strict (Reply.Read m) = pick (status_byte m.status == 0) (Reply.Read m) (Reply.StatusError m.status)
 
 abbrev pub strict_reply_of : List ℕ → Reply
 strict_reply_of bs = strict (reply_of bs)
@@ -34,8 +34,8 @@ strict_reply_of bs = strict (reply_of bs)
 -- target reached; busy, with the reply's milliseconds; otherwise wrong, the busy state being expected
 abbrev pub judged : GetStatusMessage → State → State → Met
 judged m busy target =
-    pick (eqb (state_byte m.state) (state_byte target)) Met.Reached
-    (pick (eqb (state_byte m.state) (state_byte busy)) (Met.Busy m.poll_timeout) (Met.InvalidState m.state busy))
+    pick (state_byte m.state == state_byte target) Met.Reached
+    (pick (state_byte m.state == state_byte busy) (Met.Busy m.poll_timeout) (Met.InvalidState m.state busy))
 
 -- document 01's number and values for each answer
 abbrev pub said_of : Reply → Said

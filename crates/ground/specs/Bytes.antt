@@ -1,5 +1,5 @@
 -- Numbers and fixed byte strings in a list of bytes.
-use Rattle.std.specs.Prelude.{ℕ, zero, suc, ◌+◌, ◌*◌, ◌/◌, ◌%◌, ◌<◌, List, [], ◌∷◌, Bool, true, false, eqb, take, drop}
+use Rattle.std.specs.Prelude.{ℕ, zero, suc, ◌+◌, ◌*◌, ◌/◌, ◌%◌, ◌<◌, List, [], ◌∷◌, Bool, true, false, take, drop, ◌==◌}
 use Rattle.ground.specs.Pick.{pick}
 
 -- the number that bytes are, lowest byte first
@@ -20,7 +20,7 @@ field at n bs = little_endian_value (take n (drop at bs))
 unfoldable pub prefix : List ℕ → List ℕ → Bool
 prefix [] s = true
 prefix (a ∷ p) [] = false
-prefix (a ∷ p) (b ∷ s) = pick (eqb b a) (prefix p s) false
+prefix (a ∷ p) (b ∷ s) = pick (b == a) (prefix p s) false
 
 -- every number of a list is a byte
 abbrev pub Bytes : List ℕ → Type 0

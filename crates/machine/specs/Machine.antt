@@ -1,5 +1,5 @@
 -- What a step of a session comes to, whatever the work: document 01, 'One session, step by step' and 'When the box says no'.
-use Rattle.std.specs.Prelude.{ℕ, zero, suc, Bool, true, false, List, [], ◌∷◌, eqb}
+use Rattle.std.specs.Prelude.{ℕ, zero, suc, Bool, true, false, List, [], ◌∷◌, ◌==◌}
 use Rattle.ground.specs.Pick.{pick}
 use Rattle.ground.specs.Said.{Said, says}
 use Rattle.get_status.specs.Names.{state_byte}
@@ -66,11 +66,11 @@ reading pr l (Reply.Read m) f = f m
 
 -- if state 10, CLRSTATUS; GETSTATUS again
 unfoldable pub on_first : Progress → ℕ → GetStatusMessage → Moved
-on_first pr l m = issue pr l pr (pick (eqb (state_byte m.state) 10) Phase.Clear Phase.Second)
+on_first pr l m = issue pr l pr (pick (state_byte m.state == 10) Phase.Clear Phase.Second)
 
 -- not state 2 is refusal 2, expected 2
 unfoldable pub on_second : Progress → ℕ → Todo → GetStatusMessage → Moved
-on_second pr l todo m = pick (eqb (state_byte m.state) 2) (proceed pr l todo) (refuse pr l (Error.InvalidState m.state State.DfuIdle))
+on_second pr l todo m = pick (state_byte m.state == 2) (proceed pr l todo) (refuse pr l (Error.InvalidState m.state State.DfuIdle))
 
 -- target reached: go on; busy: wait the reply's milliseconds and ask again; otherwise 2
 abbrev pub on_met : Progress → ℕ → State → State → Todo → Met → Moved

@@ -1,5 +1,5 @@
 -- DFU 1.1, appendix B: the CRC-32 of a file, a bit at a time.
-use Rattle.std.specs.Prelude.{ℕ, ◌/◌, ◌%◌, List, [], ◌∷◌, eqb}
+use Rattle.std.specs.Prelude.{ℕ, ◌/◌, ◌%◌, List, [], ◌∷◌, ◌==◌}
 use Rattle.std.specs.Int.Bits.{bit_xor}
 use Rattle.ground.specs.Pick.{pick}
 
@@ -8,7 +8,7 @@ polynomial = 0xEDB88320
 
 -- one bit: the register is shifted right, and where a 1 fell out the polynomial is added
 unfoldable pub shifted : ℕ → ℕ
-shifted c = pick (eqb (c % 2) 1) (bit_xor polynomial (c / 2)) (c / 2)
+shifted c = pick ((c % 2) == 1) (bit_xor polynomial (c / 2)) (c / 2)
 
 -- the eight bits of a byte
 unfoldable pub eight : ℕ → ℕ

@@ -1,5 +1,5 @@
 -- The download requests of an update as DFU 1.1 and ST's DfuSe lay them out: what goes over the wire, in order, said without a session.
-use Rattle.std.specs.Prelude.{ℕ, zero, suc, ◌+◌, ◌*◌, ◌/◌, ◌%◌, min, Bool, List, [], ◌∷◌, ◌++◌, eqb, ltb, length, take, drop}
+use Rattle.std.specs.Prelude.{ℕ, zero, suc, ◌+◌, ◌*◌, ◌/◌, ◌%◌, min, Bool, List, [], ◌∷◌, ◌++◌, length, take, drop, ◌==◌, nat_lt}
 use Rattle.ground.specs.Pick.{pick}
 use Rattle.papers.specs.Requests.{SetupPacket, DFU_DNLOAD}
 use Rattle.papers.specs.Dfuse.{erase_command, set_address_command}
@@ -15,14 +15,14 @@ dnload block bytes = record { setup = DFU_DNLOAD block (length bytes); bytes = b
 -- the leading pages in which a byte of the target lies: each that begins, `at` bytes behind the target's first, before its end
 unfoldable pub leading : ℕ → ℕ → List ℕ → List ℕ
 leading at len [] = []
-leading at len (p ∷ ps) = pick (ltb at len) (p ∷ leading (at + p) len ps) []
+leading at len (p ∷ ps) = pick (nat_lt at len) (p ∷ leading (at + p) len ps) []
 
 abbrev pub pages_for : ℕ → List ℕ → List ℕ
 pages_for len pages = leading 0 len pages
 
 -- as many full blocks as fit, and one more for what is left; none of size 0
 unfoldable pub blocks_for : ℕ → ℕ → ℕ
-blocks_for len size = pick (eqb size 0) 0 (len / size + min 1 (len % size))
+blocks_for len size = pick (size == 0) 0 (len / size + min 1 (len % size))
 
 -- an erase for each page, from a position on
 unfoldable pub erasing : ℕ → List ℕ → List Dnload

@@ -1,5 +1,5 @@
 -- ST's UM0424: the interface string of a DfuSe device, @NAME/0xADDRESS/COUNT*SIZEuT,COUNT*SIZEuT,.. Nothing of ours is used here.
-use Rattle.std.specs.Prelude.{ℕ, zero, suc, ◌+◌, ◌*◌, ◌/◌, ◌%◌, ◌^◌, ◌<◌, ◌≤◌, List, [], ◌∷◌, ◌++◌, Bool, true, false, ltb, replicate}
+use Rattle.std.specs.Prelude.{ℕ, zero, suc, ◌+◌, ◌*◌, ◌/◌, ◌%◌, ◌^◌, ◌<◌, ◌≤◌, List, [], ◌∷◌, ◌++◌, Bool, true, false, replicate, nat_lt}
 
 -- a digit's glyph: `0` to `9`, then `A` to `F`
 abbrev pub either : Bool → ℕ → ℕ → ℕ
@@ -7,7 +7,7 @@ either true a b = a
 either false a b = b
 
 abbrev pub glyph : ℕ → ℕ
-glyph d = either (ltb d 10) (48 + d) (55 + d)
+glyph d = either (nat_lt d 10) (48 + d) (55 + d)
 
 -- a number in a base, with so many digits, the highest first
 unfoldable pub digits : ℕ → ℕ → ℕ → List ℕ

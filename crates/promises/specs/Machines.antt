@@ -1,5 +1,5 @@
 -- The promises as predicates on a machine, and machines that each lack one.
-use Rattle.std.specs.Prelude.{ℕ, ◌+◌, ◌*◌, ◌<◌, ◌≤◌, ◌≡◌, List, ◌++◌, map, ltb, length}
+use Rattle.std.specs.Prelude.{ℕ, ◌+◌, ◌*◌, ◌<◌, ◌≤◌, ◌≡◌, List, ◌++◌, map, length, nat_lt}
 use Rattle.papers.specs.Plan.{Dnload}
 use Rattle.work.specs.Work.{whole_of}
 use Rattle.download.specs.Download.{erase_next, next_of, took_of}
@@ -204,7 +204,7 @@ marked pr = record {
 
 abbrev pub twice_at : Stage → List ℕ → Setup → Progress → Todo
 twice_at Stage.Erasing ps su pr = next_of ps su pr
-twice_at Stage.Writing ps su pr = pick (ltb pr.page 1000) (Todo.Send (Command.SetAddress su.address) (marked pr)) (next_of ps su pr)
+twice_at Stage.Writing ps su pr = pick (nat_lt pr.page 1000) (Todo.Send (Command.SetAddress su.address) (marked pr)) (next_of ps su pr)
 twice_at Stage.Ending ps su pr = next_of ps su pr
 
 abbrev pub address_twice : Machine

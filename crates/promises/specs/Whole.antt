@@ -1,12 +1,12 @@
 -- All that happens in a run that finishes, in order: the opening, a round for each download request, and the USB reset where there is one.
-use Rattle.std.specs.Prelude.{ℕ, ◌≡◌, Bool, List, [], ◌∷◌, ◌++◌, map, eqb}
+use Rattle.std.specs.Prelude.{ℕ, ◌≡◌, Bool, List, [], ◌∷◌, ◌++◌, map, ◌==◌}
 use Rattle.plan.specs.Sent.{on_wire, plan_of}
 use Rattle.promises.specs.Words.{pick, DfuProtocol, Command, Request, DfuSansIo}
 use Rattle.promises.specs.Run.{Event, sends, hears, waits, resets, in_time}
 
 -- GETSTATUS; CLRSTATUS if and only if the reply said 10; GETSTATUS, whose reply says 2. Nothing is waited
 abbrev pub opening : ℕ → ℕ → ℕ → List Event
-opening st ms last = sends Request.GetStatus ∷ hears st ms ∷ (pick (eqb st 10) (sends Request.ClearStatus ∷ []) [] ++ (sends Request.GetStatus ∷ hears 2 last ∷ []))
+opening st ms last = sends Request.GetStatus ∷ hears st ms ∷ (pick (st == 10) (sends Request.ClearStatus ∷ []) [] ++ (sends Request.GetStatus ∷ hears 2 last ∷ []))
 
 -- the busy state that a wait may meet and the target that ends it: 4 and 5; after the empty block 7, and 2 or 7
 abbrev pub busy_after : Command → ℕ

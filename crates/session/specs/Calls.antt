@@ -1,5 +1,5 @@
 -- A call with what is lent to it, and the data of its request: document 01, 'One session, step by step'.
-use Rattle.std.specs.Prelude.{ℕ, Bool, true, false, List, [], eqb, ltb, length}
+use Rattle.std.specs.Prelude.{ℕ, Bool, true, false, List, [], length, ◌==◌, nat_lt}
 use Rattle.ground.specs.Pick.{pick}
 use Rattle.wire.specs.Wire.{filled_for, request_data}
 use Rattle.work.specs.declared.Setup.{Setup}
@@ -15,7 +15,7 @@ use Rattle.session.specs.declared.Guard.{Guard}
 -- firmware and page count as at start, and 5 command bytes; plain DFU doesn't count pages
 unfoldable pub as_at_start : Setup → ℕ → ℕ → ℕ → Bool
 as_at_start su firmware pages command =
-    pick (eqb firmware su.length) (pick (ltb command 5) false (pick su.dfuse (eqb pages su.pages) true)) false
+    pick (firmware == su.length) (pick (nat_lt command 5) false (pick su.dfuse (pages == su.pages) true)) false
 
 -- an ended session repeats its answer; on a live one 25 is tested before all else
 unfoldable pub guard_of : Session → ℕ → ℕ → ℕ → Guard
@@ -62,4 +62,4 @@ ask_data (Ask.Refused e) fw cmd = []
 
 -- where firmware length and command bytes are as the tellings ask; else nothing
 unfoldable pub data_of : Session → List ℕ → List ℕ → List ℕ
-data_of s fw cmd = pick (eqb (length fw) s.setup.length) (pick (ltb (length cmd) 5) [] (ask_data (asks_at s.phase) fw cmd)) []
+data_of s fw cmd = pick (length fw == s.setup.length) (pick (nat_lt (length cmd) 5) [] (ask_data (asks_at s.phase) fw cmd)) []

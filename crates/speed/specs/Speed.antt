@@ -1,5 +1,5 @@
 -- What the exported functions answer, in one number.
-use Rattle.std.specs.Prelude.{ℕ, zero, suc, ◌+◌, ◌-◌, Bool, true, false, List, [], ◌∷◌, eqb, length}
+use Rattle.std.specs.Prelude.{ℕ, zero, suc, ◌+◌, ◌-◌, Bool, true, false, List, [], ◌∷◌, length, ◌==◌}
 use Rattle.ground.specs.Pick.{pick}
 use Rattle.memory_layout.specs.Layout.{Done, said_error}
 use Rattle.memory_layout.specs.declared.Error.{Error}
@@ -22,7 +22,7 @@ refusal_of e = 9223372036854775808 + (said_error e).number
 
 -- how many bytes of a file are firmware, or the refusal
 abbrev pub verified_of : Checked → ℕ
-verified_of c = pick (eqb (suffix.said_of c.suffix).number 0) c.firmware (9223372036854775808 + (suffix.said_of c.suffix).number)
+verified_of c = pick ((suffix.said_of c.suffix).number == 0) c.firmware (9223372036854775808 + (suffix.said_of c.suffix).number)
 
 -- how many pages, or the refusal
 abbrev pub layout_number : MemoryLayout → ℕ

@@ -1,5 +1,5 @@
 -- How a session starts: document 01, 'One session, step by step', its paragraph on start.
-use Rattle.std.specs.Prelude.{ℕ, zero, suc, Bool, true, false, [], eqb, ltb, leb}
+use Rattle.std.specs.Prelude.{ℕ, zero, suc, Bool, true, false, [], ◌==◌, nat_lt, nat_le}
 use Rattle.ground.specs.Pick.{pick}
 use Rattle.ground.specs.Said.{Said, says}
 use Rattle.functional_descriptor.specs.declared.FunctionalDescriptor.{FunctionalDescriptor}
@@ -55,20 +55,20 @@ fresh su = record {
 
 -- firmware empty or transfer size 0; DfuSe's address plus length at 2^32 or more; over the limit of pages, which plain DFU doesn't count
 abbrev pub nothingb : Setup → Bool
-nothingb su = pick (eqb su.length 0) true (eqb su.size 0)
+nothingb su = pick (su.length == 0) true (su.size == 0)
 
 abbrev pub beyondb : Setup → Bool
-beyondb su = pick su.dfuse (leb limit (end_of su)) false
+beyondb su = pick su.dfuse (nat_le limit (end_of su)) false
 
 abbrev pub overb : Bool → ℕ → Bool
-overb dfuse pages = pick dfuse (ltb max_pages pages) false
+overb dfuse pages = pick dfuse (nat_lt max_pages pages) false
 
 -- DfuSe's numbers reach so many blocks, from 2 on, and the empty one; plain DFU's begin again
 abbrev pub max_blocks : ℕ
 max_blocks = 65533
 
 abbrev pub manyb : Bool → ℕ → ℕ → Bool
-manyb dfuse length size = pick dfuse (ltb max_blocks (block_count length size)) false
+manyb dfuse length size = pick dfuse (nat_lt max_blocks (block_count length size)) false
 
 -- budget 0 is refused; the first GETSTATUS spends 1
 abbrev pub starting : Setup → ℕ → Started
@@ -84,7 +84,7 @@ begun_of su budget =
 -- in this order: too long, too many pages, finished at once, no space, too many blocks, budget
 unfoldable pub begin_of : DfuSansIo → DfuProtocol → ℕ → ℕ → ℕ → Started
 begin_of io p length pages budget =
-    pick (ltb 4294967295 length) (Started.Refused StartError.OutOfCapabilities)
+    pick (nat_lt 4294967295 length) (Started.Refused StartError.OutOfCapabilities)
     (pick (overb (dfuseb p) pages) (Started.Refused StartError.TooManyPages) (begun_of (setup_of io p length pages) budget))
 
 -- document 01's number and values for each answer

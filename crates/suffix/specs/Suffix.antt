@@ -1,5 +1,5 @@
 -- What a file is by its suffix: document 02, W1.
-use Rattle.std.specs.Prelude.{ℕ, ◌-◌, List, [], ◌∷◌, length, take, drop, get_or, eqb, ltb}
+use Rattle.std.specs.Prelude.{ℕ, ◌-◌, List, [], ◌∷◌, length, take, drop, ◌==◌, nat_lt, slice_index}
 use Rattle.ground.specs.Pick.{pick}
 use Rattle.ground.specs.Said.{Said, says}
 use Rattle.ground.specs.Text.{codes}
@@ -26,14 +26,14 @@ identities_of s = record {
 abbrev pub last_read : List ℕ → List ℕ → Suffix
 last_read s before =
     pick (prefix (codes "UFD") (drop 8 s))
-    (pick (eqb (get_or s 11 0) 16)
-    (pick (eqb (field 12 4 s) (crc_of before)) (Suffix.Read (identities_of s) (field 12 4 s)) Suffix.WrongCrc)
+    (pick (slice_index s 11 == 16)
+    (pick (field 12 4 s == crc_of before) (Suffix.Read (identities_of s) (field 12 4 s)) Suffix.WrongCrc)
     Suffix.WrongLength)
     Suffix.NoSignature
 
 -- under 16 bytes is 40, first
 unfoldable pub suffix_of : List ℕ → Suffix
-suffix_of file = pick (ltb (length file) 16) Suffix.FileTooShort (last_read (last_of file) (take (length file - 4) file))
+suffix_of file = pick (nat_lt (length file) 16) Suffix.FileTooShort (last_read (last_of file) (take (length file - 4) file))
 
 -- the firmware part: all before the suffix, and nothing of a file that is refused
 abbrev pub part_by : Suffix → List ℕ → List ℕ

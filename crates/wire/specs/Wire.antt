@@ -1,5 +1,5 @@
 -- A request on the wire: document 01, 'One session, step by step', its paragraph on requests.
-use Rattle.std.specs.Prelude.{ℕ, ◌+◌, List, [], ◌∷◌, ◌++◌, ltb, leb, length, take, drop}
+use Rattle.std.specs.Prelude.{ℕ, ◌+◌, List, [], ◌∷◌, ◌++◌, length, take, drop, nat_lt, nat_le}
 use Rattle.ground.specs.Pick.{pick}
 use Rattle.ground.specs.Bytes.{bytes_low}
 use Rattle.wire.specs.declared.Request.{Request}
@@ -30,7 +30,7 @@ filled_for (Request.Command (Command.Empty n)) cmd = cmd
 
 -- fewer than five are left alone
 abbrev pub filled_in : Request → List ℕ → List ℕ
-filled_in q cmd = pick (ltb (length cmd) 5) cmd (filled_for q cmd)
+filled_in q cmd = pick (nat_lt (length cmd) 5) cmd (filled_for q cmd)
 
 -- the data of a request: a part of the firmware, or the first five command bytes
 abbrev pub request_data : Request → List ℕ → List ℕ → List ℕ
@@ -38,5 +38,5 @@ request_data Request.GetStatus fw cmd = []
 request_data Request.ClearStatus fw cmd = []
 request_data (Request.Command (Command.Erase a)) fw cmd = take 5 cmd
 request_data (Request.Command (Command.SetAddress a)) fw cmd = take 5 cmd
-request_data (Request.Command (Command.Block n f m)) fw cmd = pick (leb (f + m) (length fw)) (take m (drop f fw)) []
+request_data (Request.Command (Command.Block n f m)) fw cmd = pick (nat_le (f + m) (length fw)) (take m (drop f fw)) []
 request_data (Request.Command (Command.Empty n)) fw cmd = []

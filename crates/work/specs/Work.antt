@@ -1,5 +1,5 @@
 -- What every work has: document 01, 'One session, step by step', its paragraphs on blocks and on what is awaited after a command.
-use Rattle.std.specs.Prelude.{ℕ, ◌+◌, ◌-◌, ◌/◌, ◌^◌, ◌%◌, min, Bool, true, [], ◌∷◌, eqb}
+use Rattle.std.specs.Prelude.{ℕ, ◌+◌, ◌-◌, ◌/◌, ◌^◌, ◌%◌, min, Bool, true, [], ◌∷◌, ◌==◌}
 use Rattle.ground.specs.Pick.{pick}
 use Rattle.ground.specs.Said.{Said, says}
 use Rattle.get_status.specs.Names.{state_byte, status_byte}
@@ -61,7 +61,7 @@ whole_of (Command.Empty n) = 0
 abbrev pub takenb : Command → ℕ → Bool
 takenb (Command.Erase a) n = true
 takenb (Command.SetAddress a) n = true
-takenb (Command.Block b f m) n = eqb n m
+takenb (Command.Block b f m) n = n == m
 takenb (Command.Empty b) n = true
 
 -- document 01's number and values for each answer
