@@ -3,8 +3,8 @@ use mathlib.Core.Path.{sym, ◌∙◌}
 use Rattle.ground.specs.Pins.{Pins}
 use Rattle.session.specs.Calls.{out}
 use Rattle.session.specs.declared.Step.{Step}
-use Rattle.at_once.proofs.told.Kinds as at-once-kinds
-use Rattle.at_once.proofs.told.Reads as at-once-reads
+use Rattle.at_once.proofs.told.Kinds as at_once_kinds
+use Rattle.at_once.proofs.told.Reads as at_once_reads
 
-pub pinned_told_at_once : Pins at-once-kinds.ps at-once-kinds.r {R = Step} at-once-reads.Post (λ κs r s. out r s.1.1.1.0.now)
+pub pinned_told_at_once : Pins at_once_kinds.ps at_once_kinds.r {R = Step} at_once_reads.Post (λ κs r s. out r s.1.1.1.0.now)
 pinned_told_at_once κs a x y s t p q = p ∙ sym q

@@ -2,13 +2,13 @@
 use mathlib.Core.Path.{sym, ◌∙◌}
 use Rattle.ground.specs.Pins.{Pins}
 use Rattle.budget.specs.declared.Suffices.{Suffices}
-use Rattle.budget.proofs.enough.Kinds as enough-kinds
-use Rattle.budget.proofs.enough.Reads as enough-reads
-use Rattle.budget.proofs.enough_for.Kinds as enough-for-kinds
-use Rattle.budget.proofs.enough_for.Reads as enough-for-reads
+use Rattle.budget.proofs.enough.Kinds as enough_kinds
+use Rattle.budget.proofs.enough.Reads as enough_reads
+use Rattle.budget.proofs.enough_for.Kinds as enough_for_kinds
+use Rattle.budget.proofs.enough_for.Reads as enough_for_reads
 
-pub pinned_enough : Pins enough-kinds.ps enough-kinds.r {R = Suffices} enough-reads.Post (λ κs r s. r)
+pub pinned_enough : Pins enough_kinds.ps enough_kinds.r {R = Suffices} enough_reads.Post (λ κs r s. r)
 pinned_enough κs a x y s t p q = p ∙ sym q
 
-pub pinned_enough_for : Pins enough-for-kinds.ps enough-for-kinds.r {R = Suffices} enough-for-reads.Post (λ κs r s. r)
+pub pinned_enough_for : Pins enough_for_kinds.ps enough_for_kinds.r {R = Suffices} enough_for_reads.Post (λ κs r s. r)
 pinned_enough_for κs a x y s t p q = p ∙ sym q

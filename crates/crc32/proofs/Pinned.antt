@@ -2,8 +2,8 @@
 use Prim.Native.Nat.{ℕ}
 use mathlib.Core.Path.{sym, ◌∙◌}
 use Rattle.ground.specs.Pins.{Pins}
-use Rattle.crc32.proofs.of.Kinds as crc-kinds
-use Rattle.crc32.proofs.of.Reads as crc-reads
+use Rattle.crc32.proofs.of.Kinds as crc_kinds
+use Rattle.crc32.proofs.of.Reads as crc_reads
 
-pub pinned_crc : Pins crc-kinds.ps crc-kinds.r {R = ℕ} crc-reads.Post (λ κs r s. r)
+pub pinned_crc : Pins crc_kinds.ps crc_kinds.r {R = ℕ} crc_reads.Post (λ κs r s. r)
 pinned_crc κs a x y s t p q = p ∙ sym q

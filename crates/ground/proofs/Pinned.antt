@@ -3,39 +3,39 @@ use Prim.Native.Nat.{ℕ}
 use mathlib.Core.Path.{sym, ◌∙◌}
 use mathlib.Core.Bool.{Bool}
 use Rattle.ground.specs.Pins.{Pins}
-use Rattle.ground.proofs.starts_with.Kinds as starts-with-kinds
-use Rattle.ground.proofs.starts_with.Reads as starts-with-reads
-use Rattle.ground.proofs.least.Kinds as least-kinds
-use Rattle.ground.proofs.least.Reads as least-reads
-use Rattle.ground.proofs.pair_at.Kinds as pair-at-kinds
-use Rattle.ground.proofs.pair_at.Reads as pair-at-reads
-use Rattle.ground.proofs.triple_at.Kinds as triple-at-kinds
-use Rattle.ground.proofs.triple_at.Reads as triple-at-reads
+use Rattle.ground.proofs.starts_with.Kinds as starts_with_kinds
+use Rattle.ground.proofs.starts_with.Reads as starts_with_reads
+use Rattle.ground.proofs.least.Kinds as least_kinds
+use Rattle.ground.proofs.least.Reads as least_reads
+use Rattle.ground.proofs.pair_at.Kinds as pair_at_kinds
+use Rattle.ground.proofs.pair_at.Reads as pair_at_reads
+use Rattle.ground.proofs.triple_at.Kinds as triple_at_kinds
+use Rattle.ground.proofs.triple_at.Reads as triple_at_reads
 use Rattle.ground.specs.declared.Report.{Report}
-use Rattle.ground.proofs.Report.plain.Kinds as report-plain-kinds
-use Rattle.ground.proofs.Report.plain.Reads as report-plain-reads
-use Rattle.ground.proofs.Report.one.Kinds as report-one-kinds
-use Rattle.ground.proofs.Report.one.Reads as report-one-reads
-use Rattle.ground.proofs.Report.two.Kinds as report-two-kinds
-use Rattle.ground.proofs.Report.two.Reads as report-two-reads
+use Rattle.ground.proofs.Report.plain.Kinds as report_plain_kinds
+use Rattle.ground.proofs.Report.plain.Reads as report_plain_reads
+use Rattle.ground.proofs.Report.one.Kinds as report_one_kinds
+use Rattle.ground.proofs.Report.one.Reads as report_one_reads
+use Rattle.ground.proofs.Report.two.Kinds as report_two_kinds
+use Rattle.ground.proofs.Report.two.Reads as report_two_reads
 
-pub pinned_starts_with : Pins starts-with-kinds.ps starts-with-kinds.r {R = Bool} starts-with-reads.Post (λ κs r s. r)
+pub pinned_starts_with : Pins starts_with_kinds.ps starts_with_kinds.r {R = Bool} starts_with_reads.Post (λ κs r s. r)
 pinned_starts_with κs a x y s t p q = p ∙ sym q
 
-pub pinned_least : Pins least-kinds.ps least-kinds.r {R = ℕ} least-reads.Post (λ κs r s. r)
+pub pinned_least : Pins least_kinds.ps least_kinds.r {R = ℕ} least_reads.Post (λ κs r s. r)
 pinned_least κs a x y s t p q = p ∙ sym q
 
-pub pinned_pair_at : Pins pair-at-kinds.ps pair-at-kinds.r {R = ℕ} pair-at-reads.Post (λ κs r s. r)
+pub pinned_pair_at : Pins pair_at_kinds.ps pair_at_kinds.r {R = ℕ} pair_at_reads.Post (λ κs r s. r)
 pinned_pair_at κs a x y s t p q = p ∙ sym q
 
-pub pinned_triple_at : Pins triple-at-kinds.ps triple-at-kinds.r {R = ℕ} triple-at-reads.Post (λ κs r s. r)
+pub pinned_triple_at : Pins triple_at_kinds.ps triple_at_kinds.r {R = ℕ} triple_at_reads.Post (λ κs r s. r)
 pinned_triple_at κs a x y s t p q = p ∙ sym q
 
-pub pinned_report_plain : Pins report-plain-kinds.ps report-plain-kinds.r {R = Report} report-plain-reads.Post (λ κs r s. r)
+pub pinned_report_plain : Pins report_plain_kinds.ps report_plain_kinds.r {R = Report} report_plain_reads.Post (λ κs r s. r)
 pinned_report_plain κs a x y s t p q = p ∙ sym q
 
-pub pinned_report_one : Pins report-one-kinds.ps report-one-kinds.r {R = Report} report-one-reads.Post (λ κs r s. r)
+pub pinned_report_one : Pins report_one_kinds.ps report_one_kinds.r {R = Report} report_one_reads.Post (λ κs r s. r)
 pinned_report_one κs a x y s t p q = p ∙ sym q
 
-pub pinned_report_two : Pins report-two-kinds.ps report-two-kinds.r {R = Report} report-two-reads.Post (λ κs r s. r)
+pub pinned_report_two : Pins report_two_kinds.ps report_two_kinds.r {R = Report} report_two_reads.Post (λ κs r s. r)
 pinned_report_two κs a x y s t p q = p ∙ sym q

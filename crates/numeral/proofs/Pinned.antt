@@ -2,13 +2,13 @@
 use Rattle.std.proofs.Common.{sym, ◌∙◌}
 use Rattle.ground.specs.Pins.{Pins}
 use Rattle.numeral.specs.declared.Number.{Number}
-use Rattle.numeral.proofs.decimal.Kinds as decimal-kinds
-use Rattle.numeral.proofs.decimal.Reads as decimal-reads
-use Rattle.numeral.proofs.hex.Kinds as hex-kinds
-use Rattle.numeral.proofs.hex.Reads as hex-reads
+use Rattle.numeral.proofs.decimal.Kinds as decimal_kinds
+use Rattle.numeral.proofs.decimal.Reads as decimal_reads
+use Rattle.numeral.proofs.hex.Kinds as hex_kinds
+use Rattle.numeral.proofs.hex.Reads as hex_reads
 
-pub pinned_decimal : Pins decimal-kinds.ps decimal-kinds.r {R = Number} decimal-reads.Post (λ κs r s. r)
+pub pinned_decimal : Pins decimal_kinds.ps decimal_kinds.r {R = Number} decimal_reads.Post (λ κs r s. r)
 pinned_decimal κs a x y s t p q = p ∙ sym q
 
-pub pinned_hex : Pins hex-kinds.ps hex-kinds.r {R = Number} hex-reads.Post (λ κs r s. r)
+pub pinned_hex : Pins hex_kinds.ps hex_kinds.r {R = Number} hex_reads.Post (λ κs r s. r)
 pinned_hex κs a x y s t p q = p ∙ sym q

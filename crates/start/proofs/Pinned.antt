@@ -5,44 +5,44 @@ use Rattle.ground.specs.Pins.{Pins}
 use Rattle.protocol.specs.declared.UsbWriteControl.{UsbWriteControl}
 use Rattle.start.specs.declared.DfuSansIo.{DfuSansIo}
 use Rattle.start.specs.declared.Started.{Started}
-use Rattle.start.proofs.is_many.Kinds as is-many-kinds
-use Rattle.start.proofs.is_many.Reads as is-many-reads
-use Rattle.start.proofs.DfuSansIo.new.Kinds as new-kinds
-use Rattle.start.proofs.DfuSansIo.new.Reads as new-reads
-use Rattle.start.proofs.DfuSansIo.set_address.Kinds as set-address-kinds
-use Rattle.start.proofs.DfuSansIo.set_address.Reads as set-address-reads
-use Rattle.start.proofs.DfuSansIo.begin.Kinds as begin-kinds
-use Rattle.start.proofs.DfuSansIo.begin.Reads as begin-reads
-use Rattle.start.proofs.DfuSansIo.download.Kinds as download-kinds
-use Rattle.start.proofs.DfuSansIo.download.Reads as download-reads
-use Rattle.start.proofs.DfuSansIo.detach.Kinds as io-detach-kinds
-use Rattle.start.proofs.DfuSansIo.detach.Reads as io-detach-reads
+use Rattle.start.proofs.is_many.Kinds as is_many_kinds
+use Rattle.start.proofs.is_many.Reads as is_many_reads
+use Rattle.start.proofs.DfuSansIo.new.Kinds as new_kinds
+use Rattle.start.proofs.DfuSansIo.new.Reads as new_reads
+use Rattle.start.proofs.DfuSansIo.set_address.Kinds as set_address_kinds
+use Rattle.start.proofs.DfuSansIo.set_address.Reads as set_address_reads
+use Rattle.start.proofs.DfuSansIo.begin.Kinds as begin_kinds
+use Rattle.start.proofs.DfuSansIo.begin.Reads as begin_reads
+use Rattle.start.proofs.DfuSansIo.download.Kinds as download_kinds
+use Rattle.start.proofs.DfuSansIo.download.Reads as download_reads
+use Rattle.start.proofs.DfuSansIo.detach.Kinds as io_detach_kinds
+use Rattle.start.proofs.DfuSansIo.detach.Reads as io_detach_reads
 use Rattle.ground.specs.declared.Report.{Report}
-use Rattle.start.proofs.StartError.said.Kinds as error-said-kinds
-use Rattle.start.proofs.StartError.said.Reads as error-said-reads
-use Rattle.start.proofs.Started.said.Kinds as started-said-kinds
-use Rattle.start.proofs.Started.said.Reads as started-said-reads
+use Rattle.start.proofs.StartError.said.Kinds as error_said_kinds
+use Rattle.start.proofs.StartError.said.Reads as error_said_reads
+use Rattle.start.proofs.Started.said.Kinds as started_said_kinds
+use Rattle.start.proofs.Started.said.Reads as started_said_reads
 
-pub pinned_is_many : Pins is-many-kinds.ps is-many-kinds.r {R = Bool} is-many-reads.Post (λ κs r s. r)
+pub pinned_is_many : Pins is_many_kinds.ps is_many_kinds.r {R = Bool} is_many_reads.Post (λ κs r s. r)
 pinned_is_many κs a x y s t p q = p ∙ sym q
 
-pub pinned_new : Pins new-kinds.ps new-kinds.r {R = DfuSansIo} new-reads.Post (λ κs r s. r)
+pub pinned_new : Pins new_kinds.ps new_kinds.r {R = DfuSansIo} new_reads.Post (λ κs r s. r)
 pinned_new κs a x y s t p q = p ∙ sym q
 
-pub pinned_set_address : Pins set-address-kinds.ps set-address-kinds.r {R = DfuSansIo} set-address-reads.Post (λ κs r s. r)
+pub pinned_set_address : Pins set_address_kinds.ps set_address_kinds.r {R = DfuSansIo} set_address_reads.Post (λ κs r s. r)
 pinned_set_address κs a x y s t p q = p ∙ sym q
 
-pub pinned_begin : Pins begin-kinds.ps begin-kinds.r {R = Started} begin-reads.Post (λ κs r s. r)
+pub pinned_begin : Pins begin_kinds.ps begin_kinds.r {R = Started} begin_reads.Post (λ κs r s. r)
 pinned_begin κs a x y s t p q = p ∙ sym q
 
-pub pinned_download : Pins download-kinds.ps download-kinds.r {R = Started} download-reads.Post (λ κs r s. r)
+pub pinned_download : Pins download_kinds.ps download_kinds.r {R = Started} download_reads.Post (λ κs r s. r)
 pinned_download κs a x y s t p q = p ∙ sym q
 
-pub pinned_io_detach : Pins io-detach-kinds.ps io-detach-kinds.r {R = UsbWriteControl} io-detach-reads.Post (λ κs r s. r)
+pub pinned_io_detach : Pins io_detach_kinds.ps io_detach_kinds.r {R = UsbWriteControl} io_detach_reads.Post (λ κs r s. r)
 pinned_io_detach κs a x y s t p q = p ∙ sym q
 
-pub pinned_error_said : Pins error-said-kinds.ps error-said-kinds.r {R = Report} error-said-reads.Post (λ κs r s. r)
+pub pinned_error_said : Pins error_said_kinds.ps error_said_kinds.r {R = Report} error_said_reads.Post (λ κs r s. r)
 pinned_error_said κs a x y s t p q = p ∙ sym q
 
-pub pinned_started_said : Pins started-said-kinds.ps started-said-kinds.r {R = Report} started-said-reads.Post (λ κs r s. r)
+pub pinned_started_said : Pins started_said_kinds.ps started_said_kinds.r {R = Report} started_said_reads.Post (λ κs r s. r)
 pinned_started_said κs a x y s t p q = p ∙ sym q
