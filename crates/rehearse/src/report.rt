@@ -61,13 +61,11 @@ fn wide(x: u32) -> u64 {
 // The bytes of the first n pages.
 fn bytes_of(pages: &[u32], n: u64) -> u64 {
     let mut bytes = 0;
-    let mut i = 0;
-    while i < pages.len() {
+    for i in 0..pages.len() {
         if n <= i as u64 {
             return bytes;
         }
         bytes = print::plus(bytes, wide(pages[i]));
-        i += 1;
     }
     bytes
 }
@@ -91,11 +89,9 @@ fn mark(rt: &impl Print, at: u64, address: u64, erased: u64) -> io::Result<()> {
 // The memory, page by page.
 fn picture(rt: &impl Print, start: u32, pages: &[u32], erased: u64) -> io::Result<()> {
     let mut address = start as u64;
-    let mut i = 0;
-    while i < pages.len() {
+    for i in 0..pages.len() {
         mark(rt, i as u64, address, erased)?;
         address = print::plus(address, wide(pages[i]));
-        i += 1;
     }
     print::text(rt, b"\n")
 }

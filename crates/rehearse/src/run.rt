@@ -101,7 +101,7 @@ fn next(
     Ok(counted(run, step))
 }
 
-// The calls up to the end. Nothing says here that there is one, so they are counted down from a number that no run uses up.
+// The calls up to the end. Nothing says here that there is one, so they are counted up to a number that no run reaches.
 fn calls(
     rt: &impl Print,
     run: Run,
@@ -111,13 +111,11 @@ fn calls(
     listed: bool,
 ) -> io::Result<Run> {
     let mut run = run;
-    let mut turns = u64::MAX;
-    while 0 < turns {
+    for _ in 0..u64::MAX {
         if is_over(run) {
             return Ok(run);
         }
         run = next(rt, run, firmware, pages, command, listed)?;
-        turns -= 1;
     }
     Ok(run)
 }

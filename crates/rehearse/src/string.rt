@@ -38,10 +38,8 @@ fn later(found: u64, at: u64, b: u8, end: u64) -> u64 {
 // Where the text after the last slash before `end` starts.
 fn after_slash(string: &[u8], end: u64) -> u64 {
     let mut found = 0;
-    let mut i = 0;
-    while i < string.len() {
+    for i in 0..string.len() {
         found = later(found, i as u64, string[i], end);
-        i += 1;
     }
     found
 }
@@ -100,10 +98,8 @@ fn mark(rt: &impl Print, b: u8, at: u64, part: Stretch) -> io::Result<()> {
 
 // The carets below a part of the string; one that starts at its end has one behind it.
 fn marks(rt: &impl Print, string: &[u8], part: Stretch) -> io::Result<()> {
-    let mut i = 0;
-    while i < string.len() {
+    for i in 0..string.len() {
         mark(rt, string[i], i as u64, part)?;
-        i += 1;
     }
     if string.len() as u64 <= part.from {
         print::text(rt, b"^")?;
