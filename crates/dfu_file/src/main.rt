@@ -7,6 +7,7 @@ mod report;
 
 use file::File;
 use std::env::{Env, FillError};
+use std::fs::Files;
 use std::io;
 use suffix::Suffix;
 
@@ -24,6 +25,13 @@ fn show(rt: &impl Print, file: &[u8]) -> io::Result<()> {
     report::show(rt, read, checked.firmware, file.len())
 }
 
+fn with_space(rt: &(impl Env + Files + Print), space: &mut [u8]) -> io::Result<()> {
+    match file::read(rt, 1, space)? {
+        File::Read(n) => show(rt, first(space, n)),
+        File::Refused => Ok(()),
+    }
+}
+
 // Whether a word stands at a place of the command line.
 fn is_there(rt: &impl Env, at: usize) -> bool {
     match rt.arg(at, &mut []) {
@@ -33,7 +41,7 @@ fn is_there(rt: &impl Env, at: usize) -> bool {
 }
 
 fn main(rt: HostRuntime) -> io::Result<()> {
-    // the first word is the program's own name
+    // The first word is the program's own name.
     if !is_there(&rt, 1) || is_there(&rt, 2) {
         print::text(
             &rt,
@@ -41,9 +49,7 @@ fn main(rt: HostRuntime) -> io::Result<()> {
         )?;
         return print::text(&rt, b"refused: there has to be one FILE\n");
     }
+    // The space is too large for the stack.
     let mut space = vec![in rt.alloc(); 0; file::SPACE]?;
-    match file::read(&rt, 1, &mut space)? {
-        File::Read(n) => show(&rt, first(&space, n)),
-        File::Refused => Ok(()),
-    }
+    with_space(&rt, &mut space)
 }

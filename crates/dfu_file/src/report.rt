@@ -7,7 +7,7 @@ use suffix::{Identities, Suffix};
 // A fact of four hexadecimal digits, after its name.
 fn short(rt: &impl Print, name: &[u8], n: u16) -> io::Result<()> {
     print::text(rt, name)?;
-    print::hex4(rt, n)
+    print::hex(rt, n as u64, 4)
 }
 
 // What a version is called, if it has a name.
@@ -33,7 +33,7 @@ fn identities(rt: &impl Print, i: Identities) -> io::Result<()> {
 fn good(rt: &impl Print, i: Identities, crc: u32, firmware: usize, all: usize) -> io::Result<()> {
     identities(rt, i)?;
     print::text(rt, b"CRC      ")?;
-    print::hex8(rt, crc)?;
+    print::hex(rt, crc as u64, 8)?;
     print::text(rt, b"\nfirmware ")?;
     print::decimal(rt, firmware as u64)?;
     print::text(rt, b" bytes of ")?;

@@ -51,7 +51,7 @@ fn with_space(
     }
 }
 
-// The firmware's space is too large for the stack.
+// With the space for the firmware, which is too large for the stack.
 fn with_pages(
     rt: &(impl AllocGlobal + Env + Files + Print),
     words: Words,
