@@ -6,6 +6,9 @@ mod print;
 mod report;
 
 use file::File;
+use std::env::{Env, FillError};
+use std::fs::Files;
+use std::io;
 use suffix::Suffix;
 
 // The first n bytes, or all if there are fewer.
@@ -16,26 +19,37 @@ fn first(s: &[u8], n: usize) -> &[u8] {
     s
 }
 
-fn show(file: &[u8]) {
+fn show(rt: &impl Print, file: &[u8]) -> io::Result<()> {
     let checked = Suffix::check(file);
     let read = checked.suffix;
-    report::show(read, checked.firmware, file.len());
+    report::show(rt, read, checked.firmware, file.len())
 }
 
-fn with_space(space: &mut [u8; file::SPACE]) {
-    let read = file::read(1, space);
-    match read {
-        File::Read(n) => show(first(space, n)),
-        File::Refused => {}
+fn with_space(rt: &(impl Env + Files + Print), space: &mut [u8]) -> io::Result<()> {
+    match file::read(rt, 1, space)? {
+        File::Read(n) => show(rt, first(space, n)),
+        File::Refused => Ok(()),
     }
 }
 
-fn main() {
-    if os::arg_count() != 2 {
-        print::text(b"usage: dfu_file FILE, which has at most 4194304 bytes\n");
-        print::text(b"refused: there has to be one FILE\n");
-        return;
+// Whether a word stands at a place of the command line.
+fn is_there(rt: &impl Env, at: usize) -> bool {
+    match rt.arg(at, &mut []) {
+        Err(FillError::NotPresent) => false,
+        _ => true,
     }
-    let mut space = [0u8; file::SPACE];
-    with_space(&mut space);
+}
+
+fn main(rt: HostRuntime) -> io::Result<()> {
+    // The first word is the program's own name.
+    if !is_there(&rt, 1) || is_there(&rt, 2) {
+        print::text(
+            &rt,
+            b"usage: dfu_file FILE, which has at most 4194304 bytes\n",
+        )?;
+        return print::text(&rt, b"refused: there has to be one FILE\n");
+    }
+    // The space is too large for the stack.
+    let mut space = vec![in rt.alloc(); 0; file::SPACE]?;
+    with_space(&rt, &mut space)
 }

@@ -1,7 +1,11 @@
 // The firmware's file.
 ghost use Rattle.std.specs.Prelude.{◌≤◌, length};
 
-use crate::print;
+use crate::{print, words};
+use std::env::Env;
+use std::fs::Files;
+use std::io::Read;
+use std::{fs, io, str};
 
 pub const LONGEST: usize = 4194304;
 
@@ -22,22 +26,23 @@ struct Piece {
     len: usize,
 }
 
-fn read_some(fd: i32, space: &mut [u8]) -> Piece
+fn read_some(file: &mut impl Read, space: &mut [u8]) -> Piece
     ensures { result.len ≤ length space.new }
 {
-    let got = libc::read(fd, space);
-    let len = io::count(got, space);
-    Piece {
-        failed: got < 0,
-        len,
+    match file.read(space) {
+        Ok(len) => Piece { failed: false, len },
+        Err(_) => Piece {
+            failed: true,
+            len: 0,
+        },
     }
 }
 
 // Reads until the space is full or the file ends.
-fn fill(fd: i32, space: &mut [u8]) -> Piece {
+fn fill(file: &mut impl Read, space: &mut [u8]) -> Piece {
     let mut n = 0;
     while n < space.len() {
-        let more = read_some(fd, &mut space[n..]);
+        let more = read_some(file, &mut space[n..]);
         if more.len == 0 {
             return Piece {
                 failed: more.failed,
@@ -52,34 +57,49 @@ fn fill(fd: i32, space: &mut [u8]) -> Piece {
     }
 }
 
-fn refuse(path: &[u8], why: &[u8]) -> File {
-    print::text(b"refused: '");
-    print::word(path);
-    print::text(b"' ");
-    print::text(why);
-    print::text(b"\n");
-    File::Refused
+fn refuse(rt: &impl Print, path: &[u8], why: &[u8]) -> io::Result<File> {
+    print::text(rt, b"refused: '")?;
+    print::word(rt, path)?;
+    print::text(rt, b"' ")?;
+    print::text(rt, why)?;
+    print::text(rt, b"\n")?;
+    Ok(File::Refused)
 }
 
-fn read_file(path: &[u8], space: &mut [u8]) -> File {
-    let fd = os::open_read(path);
-    if fd < 0 {
-        return refuse(path, b"can't be opened");
-    }
-    let all = fill(fd, space);
-    libc::close(fd);
+fn read_open(
+    rt: &impl Print,
+    file: &mut impl Read,
+    path: &[u8],
+    space: &mut [u8],
+) -> io::Result<File> {
+    let all = fill(file, space);
     if all.failed {
-        return refuse(path, b"can't be read");
+        return refuse(rt, path, b"can't be read");
     }
     if LONGEST < all.len {
-        return refuse(path, b"is longer than 4194304 bytes");
+        return refuse(rt, path, b"is longer than 4194304 bytes");
     }
-    File::Read(all.len)
+    Ok(File::Read(all.len))
+}
+
+fn read_named(rt: &(impl Files + Print), name: &str, space: &mut [u8]) -> io::Result<File> {
+    match fs::open(rt, name) {
+        Ok(mut file) => read_open(rt, &mut file, name.as_bytes(), space),
+        Err(_) => refuse(rt, name.as_bytes(), b"can't be opened"),
+    }
+}
+
+// The system's files are opened by names that are UTF-8.
+fn read_file(rt: &(impl Files + Print), path: &[u8], space: &mut [u8]) -> io::Result<File> {
+    match str::from_utf8(path) {
+        Ok(name) => read_named(rt, name, space),
+        Err(_) => refuse(rt, path, b"can't be opened"),
+    }
 }
 
 // Reads the file that the word at a place names.
-pub fn read(at: usize, space: &mut [u8]) -> File {
-    let mut path = io::buffer();
-    let n = os::arg(at, &mut path);
-    read_file(&path[..n], space)
+pub fn read(rt: &(impl Env + Files + Print), at: usize, space: &mut [u8]) -> io::Result<File> {
+    let mut path = [0u8; words::LONGEST];
+    let n = rt.arg(at, &mut path).unwrap_or(0);
+    read_file(rt, &path[..n], space)
 }

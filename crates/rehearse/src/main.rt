@@ -16,6 +16,9 @@ mod words;
 use file::File;
 use memory_layout::MAX_PAGES;
 use protocol::{DfuProtocol, Interface};
+use std::env::Env;
+use std::fs::Files;
+use std::io;
 use words::Words;
 
 // The first n bytes, or all if there are fewer.
@@ -35,39 +38,52 @@ fn first_pages(s: &[u32], n: usize) -> &[u32] {
 }
 
 // Reads the firmware and rehearses its download.
-fn with_space(words: Words, protocol: DfuProtocol, pages: &[u32], space: &mut [u8; file::SPACE]) {
-    let read = file::read(words.file, space);
-    match read {
-        File::Read(n) => rehearsal::show(words, protocol, first_bytes(space, n), pages),
-        File::Refused => {}
+fn with_space(
+    rt: &(impl Env + Files + Print),
+    words: Words,
+    protocol: DfuProtocol,
+    pages: &[u32],
+    space: &mut [u8],
+) -> io::Result<()> {
+    match file::read(rt, words.file, space)? {
+        File::Read(n) => rehearsal::show(rt, words, protocol, first_bytes(space, n), pages),
+        File::Refused => Ok(()),
     }
 }
 
-fn with_pages(words: Words, protocol: DfuProtocol, pages: &[u32]) {
-    let mut space = [0u8; file::SPACE];
-    with_space(words, protocol, pages, &mut space);
+// With the space for the firmware, which is too large for the stack.
+fn with_pages(
+    rt: &(impl AllocGlobal + Env + Files + Print),
+    words: Words,
+    protocol: DfuProtocol,
+    pages: &[u32],
+) -> io::Result<()> {
+    let mut space = vec![in rt.alloc(); 0; file::SPACE]?;
+    with_space(rt, words, protocol, pages, &mut space)
 }
 
 // Reads the interface string, whose pages go into the store.
-fn with_store(words: Words, store: &mut [u32]) {
-    let interface = string::read(words.string, words.plain, store);
-    match interface {
+fn with_store(
+    rt: &(impl AllocGlobal + Env + Files + Print),
+    words: Words,
+    store: &mut [u32],
+) -> io::Result<()> {
+    match string::read(rt, words.string, words.plain, store)? {
         Interface::Read { protocol, pages } => {
-            with_pages(words, protocol, first_pages(store, pages))
+            with_pages(rt, words, protocol, first_pages(store, pages))
         }
-        Interface::Refused(_) => {}
+        Interface::Refused(_) => Ok(()),
     }
 }
 
-fn main() {
-    let words = words::read();
+fn main(rt: HostRuntime) -> io::Result<()> {
+    let words = words::read(&rt)?;
     if words.refused {
-        return;
+        return Ok(());
     }
     if words.help {
-        usage::show();
-        return;
+        return usage::show(&rt);
     }
     let mut store = [0u32; MAX_PAGES];
-    with_store(words, &mut store);
+    with_store(&rt, words, &mut store)
 }

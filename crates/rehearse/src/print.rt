@@ -1,18 +1,17 @@
 // Short ways to print on standard output.
-use libc::STDOUT_FILENO;
+use std::io;
 
-pub fn text(s: &[u8]) {
-    io::write_all(STDOUT_FILENO, s);
+pub fn text(rt: &impl Print, s: &[u8]) -> io::Result<()> {
+    rt.write_all(s)
 }
 
-pub fn decimal(n: u64) {
-    io::print_decimal(STDOUT_FILENO, n);
+pub fn decimal(rt: &impl Print, n: u64) -> io::Result<()> {
+    rt.print(n)
 }
 
 // An address, with at least eight digits.
-pub fn address(n: u64) {
-    text(b"0x");
-    io::print_hex(STDOUT_FILENO, n, 8);
+pub fn address(rt: &impl Print, n: u64) -> io::Result<()> {
+    print!(rt; "0x{n:08x}")
 }
 
 // A byte that a terminal shows as it is; a control byte would break the line.
@@ -27,23 +26,21 @@ fn shown(b: u8) -> u8 {
 }
 
 // A word of the command line.
-pub fn word(s: &[u8]) {
-    let mut i = 0;
-    while i < s.len() {
-        text(&[shown(s[i])]);
-        i += 1;
+pub fn word(rt: &impl Print, s: &[u8]) -> io::Result<()> {
+    for b in s {
+        text(rt, &[shown(*b)])?;
     }
+    Ok(())
 }
 
 // A number, and a noun in the singular or the plural.
-pub fn counted(n: u64, one: &[u8], many: &[u8]) {
-    decimal(n);
-    text(b" ");
+pub fn counted(rt: &impl Print, n: u64, one: &[u8], many: &[u8]) -> io::Result<()> {
+    decimal(rt, n)?;
+    text(rt, b" ")?;
     if n == 1 {
-        text(one);
-        return;
+        return text(rt, one);
     }
-    text(many);
+    text(rt, many)
 }
 
 // A sum that stops at the largest number.

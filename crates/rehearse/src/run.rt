@@ -2,6 +2,7 @@
 use crate::{list, print};
 use machine::Ask;
 use session::{Session, Step};
+use std::io;
 use wire::{Command, Request};
 
 // A session, what it says, and what it has asked for so far.
@@ -83,35 +84,53 @@ fn counted(run: Run, step: Step) -> Run {
 }
 
 // One call, with its line if it is to be listed.
-fn next(run: Run, firmware: &[u8], pages: &[u32], command: &mut [u8], listed: bool) -> Run {
+fn next(
+    rt: &impl Print,
+    run: Run,
+    firmware: &[u8],
+    pages: &[u32],
+    command: &mut [u8],
+    listed: bool,
+) -> io::Result<Run> {
     let session = run.session;
     let step = at_once::told(session, firmware, pages, command);
     let says = step.says;
     if listed {
-        list::show(says, pages, run.erases);
+        list::show(rt, says, pages, run.erases)?;
     }
-    counted(run, step)
+    Ok(counted(run, step))
 }
 
-// The calls up to the end. Nothing says here that there is one, so they are counted down from a number that no run uses up.
-fn calls(run: Run, firmware: &[u8], pages: &[u32], command: &mut [u8], listed: bool) -> Run {
+// The calls up to the end. Nothing says here that there is one, so they are counted up to a number that no run reaches.
+fn calls(
+    rt: &impl Print,
+    run: Run,
+    firmware: &[u8],
+    pages: &[u32],
+    command: &mut [u8],
+    listed: bool,
+) -> io::Result<Run> {
     let mut run = run;
-    let mut turns = u64::MAX;
-    while 0 < turns {
+    for _ in 0..u64::MAX {
         if is_over(run) {
-            return run;
+            return Ok(run);
         }
-        run = next(run, firmware, pages, command, listed);
-        turns -= 1;
+        run = next(rt, run, firmware, pages, command, listed)?;
     }
-    run
+    Ok(run)
 }
 
 // Runs a session from its start, whose request counts too.
-pub fn whole(session: Session, firmware: &[u8], pages: &[u32], listed: bool) -> Run {
+pub fn whole(
+    rt: &impl Print,
+    session: Session,
+    firmware: &[u8],
+    pages: &[u32],
+    listed: bool,
+) -> io::Result<Run> {
     let says = session.asks();
     if listed {
-        list::show(says, pages, 0);
+        list::show(rt, says, pages, 0)?;
     }
     let run = Run {
         session,
@@ -121,5 +140,5 @@ pub fn whole(session: Session, firmware: &[u8], pages: &[u32], listed: bool) -> 
         blocks: 0,
     };
     let mut command = [0u8; 5];
-    calls(run, firmware, pages, &mut command, listed)
+    calls(rt, run, firmware, pages, &mut command, listed)
 }

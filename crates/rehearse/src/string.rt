@@ -1,8 +1,10 @@
 // The interface string, and what is wrong about it.
-use crate::{print, refusals};
+use crate::{print, refusals, words};
 use ground::Version;
 use memory_layout::Error as Fault;
 use protocol::{DfuProtocol, Error, Interface};
+use std::env::Env;
+use std::io;
 
 // A part of the string, from..to.
 #[derive(Clone, Copy)]
@@ -36,10 +38,8 @@ fn later(found: u64, at: u64, b: u8, end: u64) -> u64 {
 // Where the text after the last slash before `end` starts.
 fn after_slash(string: &[u8], end: u64) -> u64 {
     let mut found = 0;
-    let mut i = 0;
-    while i < string.len() {
+    for i in 0..string.len() {
         found = later(found, i as u64, string[i], end);
-        i += 1;
     }
     found
 }
@@ -83,58 +83,66 @@ fn part_of(string: &[u8], error: Error) -> Stretch {
 }
 
 // The mark below a byte. A byte that goes on a character of several bytes has none.
-fn mark(b: u8, at: u64, part: Stretch) {
+fn mark(rt: &impl Print, b: u8, at: u64, part: Stretch) -> io::Result<()> {
     if b / 64 == 2 {
-        return;
+        return Ok(());
     }
     if at < part.from {
-        print::text(b" ");
-        return;
+        return print::text(rt, b" ");
     }
     if at < part.to {
-        print::text(b"^");
+        print::text(rt, b"^")?;
     }
+    Ok(())
 }
 
 // The carets below a part of the string; one that starts at its end has one behind it.
-fn marks(string: &[u8], part: Stretch) {
-    let mut i = 0;
-    while i < string.len() {
-        mark(string[i], i as u64, part);
-        i += 1;
+fn marks(rt: &impl Print, string: &[u8], part: Stretch) -> io::Result<()> {
+    for i in 0..string.len() {
+        mark(rt, string[i], i as u64, part)?;
     }
     if string.len() as u64 <= part.from {
-        print::text(b"^");
+        print::text(rt, b"^")?;
     }
-    print::text(b"\n");
+    print::text(rt, b"\n")
 }
 
-fn refuse(string: &[u8], error: Error) {
-    print::word(string);
-    print::text(b"\n");
-    marks(string, part_of(string, error));
-    refusals::string(error);
+fn refuse(rt: &impl Print, string: &[u8], error: Error) -> io::Result<()> {
+    print::word(rt, string)?;
+    print::text(rt, b"\n")?;
+    marks(rt, string, part_of(string, error))?;
+    refusals::string(rt, error)
 }
 
 // Reads the string into the store, or shows why not.
-fn read_string(string: &[u8], plain: bool, store: &mut [u32]) -> Interface {
+fn read_string(
+    rt: &impl Print,
+    string: &[u8],
+    plain: bool,
+    store: &mut [u32],
+) -> io::Result<Interface> {
     let minor = if plain { 0x10 } else { 0x1a };
     let interface = DfuProtocol::new(string, Version(1, minor), store);
     match interface {
         Interface::Read {
             protocol: _,
             pages: _,
-        } => interface,
+        } => Ok(interface),
         Interface::Refused(error) => {
-            refuse(string, error);
-            interface
+            refuse(rt, string, error)?;
+            Ok(interface)
         }
     }
 }
 
 // The same, of the word at a place.
-pub fn read(at: usize, plain: bool, store: &mut [u32]) -> Interface {
-    let mut space = io::buffer();
-    let n = os::arg(at, &mut space);
-    read_string(&space[..n], plain, store)
+pub fn read(
+    rt: &(impl Env + Print),
+    at: usize,
+    plain: bool,
+    store: &mut [u32],
+) -> io::Result<Interface> {
+    let mut space = [0u8; words::LONGEST];
+    let n = rt.arg(at, &mut space).unwrap_or(0);
+    read_string(rt, &space[..n], plain, store)
 }

@@ -1,6 +1,11 @@
 // The words that the program is started with.
 use crate::print;
 use numeral::Number;
+use std::env::{Env, FillError};
+use std::io;
+
+// The longest word that is read.
+pub const LONGEST: usize = 4096;
 
 // What the words ask for.
 #[derive(Clone, Copy)]
@@ -49,15 +54,15 @@ fn none() -> Words {
 }
 
 // Refuses a word, with what is wrong about it.
-fn refuse(words: Words, word: &[u8], why: &[u8]) -> Words {
-    print::text(b"refused: '");
-    print::word(word);
-    print::text(b"' ");
-    print::text(why);
-    print::text(b"\n");
+fn refuse(rt: &impl Print, words: Words, word: &[u8], why: &[u8]) -> io::Result<Words> {
+    print::text(rt, b"refused: '")?;
+    print::word(rt, word)?;
+    print::text(rt, b"' ")?;
+    print::text(rt, why)?;
+    print::text(rt, b"\n")?;
     let mut next = words;
     next.refused = true;
-    next
+    Ok(next)
 }
 
 fn is(word: &[u8], name: &[u8]) -> bool {
@@ -68,37 +73,37 @@ fn is(word: &[u8], name: &[u8]) -> bool {
 }
 
 // An option, or no word that is known.
-fn option(words: Words, word: &[u8]) -> Words {
+fn option(rt: &impl Print, words: Words, word: &[u8]) -> io::Result<Words> {
     let mut next = words;
     if is(word, b"--plain") {
         next.plain = true;
-        return next;
+        return Ok(next);
     }
     if is(word, b"--tolerant") {
         next.tolerant = true;
-        return next;
+        return Ok(next);
     }
     if is(word, b"--detach") {
         next.detach = true;
-        return next;
+        return Ok(next);
     }
     if is(word, b"--list") {
         next.list = true;
-        return next;
+        return Ok(next);
     }
     if is(word, b"--help") {
         next.help = true;
-        return next;
+        return Ok(next);
     }
     if is(word, b"--address") {
         next.awaits_address = true;
-        return next;
+        return Ok(next);
     }
     if is(word, b"--busy") {
         next.awaits_busy = true;
-        return next;
+        return Ok(next);
     }
-    refuse(words, word, b"is no option (see --help)")
+    refuse(rt, words, word, b"is no option (see --help)")
 }
 
 // A number below 2^32, decimal or hexadecimal.
@@ -113,7 +118,7 @@ fn number_of(word: &[u8]) -> Number {
 }
 
 // The number of --address.
-fn address(words: Words, word: &[u8]) -> Words {
+fn address(rt: &impl Print, words: Words, word: &[u8]) -> io::Result<Words> {
     let read = number_of(word);
     match read {
         Number::Value(value) => {
@@ -121,145 +126,152 @@ fn address(words: Words, word: &[u8]) -> Words {
             next.is_moved = true;
             next.address = value;
             next.awaits_address = false;
-            next
+            Ok(next)
         }
-        Number::Bad => refuse(words, word, b"is no address from 0 to 0xffffffff"),
+        Number::Bad => refuse(rt, words, word, b"is no address from 0 to 0xffffffff"),
     }
 }
 
 // The number of --busy.
-fn busy(words: Words, word: &[u8]) -> Words {
+fn busy(rt: &impl Print, words: Words, word: &[u8]) -> io::Result<Words> {
     let read = numeral::decimal(word);
     match read {
         Number::Value(value) => {
             let mut next = words;
             next.busy = value;
             next.awaits_busy = false;
-            next
+            Ok(next)
         }
-        Number::Bad => refuse(words, word, b"is no number from 0 to 4294967295"),
+        Number::Bad => refuse(rt, words, word, b"is no number from 0 to 4294967295"),
     }
 }
 
 // SIZE
-fn size(words: Words, word: &[u8]) -> Words {
+fn size(rt: &impl Print, words: Words, word: &[u8]) -> io::Result<Words> {
     let why = b"is no transfer size from 0 to 65535";
     let read = numeral::decimal(word);
     match read {
         Number::Value(value) => {
             if 65535 < value {
-                return refuse(words, word, why);
+                return refuse(rt, words, word, why);
             }
             let mut next = words;
             next.size = value as u16;
             next.read = 2;
-            next
+            Ok(next)
         }
-        Number::Bad => refuse(words, word, why),
+        Number::Bad => refuse(rt, words, word, why),
     }
 }
 
 // A word that is no option: STRING, SIZE and FILE in this order.
-fn placed(words: Words, at: usize, word: &[u8]) -> Words {
+fn placed(rt: &impl Print, words: Words, at: usize, word: &[u8]) -> io::Result<Words> {
     let mut next = words;
     if words.read == 0 {
         next.string = at;
         next.read = 1;
-        return next;
+        return Ok(next);
     }
     if words.read == 1 {
-        return size(words, word);
+        return size(rt, words, word);
     }
     if words.read == 2 {
         next.file = at;
         next.read = 3;
-        return next;
+        return Ok(next);
     }
-    refuse(words, word, b"is one word too many (see --help)")
+    refuse(rt, words, word, b"is one word too many (see --help)")
 }
 
 // One word more.
-fn with_word(words: Words, at: usize, word: &[u8]) -> Words {
+fn with_word(rt: &impl Print, words: Words, at: usize, word: &[u8]) -> io::Result<Words> {
     if words.awaits_address {
-        return address(words, word);
+        return address(rt, words, word);
     }
     if words.awaits_busy {
-        return busy(words, word);
+        return busy(rt, words, word);
     }
     if ground::starts_with(word, b"--") {
-        return option(words, word);
+        return option(rt, words, word);
     }
-    placed(words, at, word)
+    placed(rt, words, at, word)
 }
 
 // Refuses a word that is too long; its beginning names it.
-fn too_long(words: Words, start: &[u8]) -> Words {
+fn too_long(rt: &impl Print, words: Words, start: &[u8]) -> io::Result<Words> {
     let why = b"begins a word of more than 4096 bytes";
     if 32 <= start.len() {
-        return refuse(words, &start[0..32], why);
+        return refuse(rt, words, &start[0..32], why);
     }
-    refuse(words, start, why)
+    refuse(rt, words, start, why)
 }
 
 // The word at a place of the command line.
-fn next(words: Words, at: usize) -> Words {
-    let mut space = io::buffer();
-    let n = os::arg(at, &mut space);
-    if os::errno() != 0 {
-        return too_long(words, &space);
+fn next(rt: &(impl Env + Print), words: Words, at: usize) -> io::Result<Words> {
+    let mut space = [0u8; LONGEST];
+    match rt.arg(at, &mut space) {
+        Ok(n) => with_word(rt, words, at, &space[..n]),
+        Err(_) => too_long(rt, words, &space),
     }
-    with_word(words, at, &space[..n])
+}
+
+// Whether a word stands at a place of the command line.
+fn is_there(rt: &impl Env, at: usize) -> bool {
+    match rt.arg(at, &mut []) {
+        Err(FillError::NotPresent) => false,
+        _ => true,
+    }
 }
 
 // Goes through the words up to the first that is refused; the first of all is the program's name.
-fn all(count: usize) -> Words {
+fn all(rt: &(impl Env + Print)) -> io::Result<Words> {
     let mut words = none();
-    let mut at = 1;
-    while at < count {
-        words = next(words, at);
-        if words.refused {
-            return words;
+    for at in 1..usize::MAX {
+        if !is_there(rt, at) {
+            return Ok(words);
         }
-        at += 1;
+        words = next(rt, words, at)?;
+        if words.refused {
+            return Ok(words);
+        }
     }
-    words
+    Ok(words)
 }
 
 // Refuses what is missing at the end.
-fn missing(words: Words, name: &[u8]) -> Words {
-    refuse(words, name, b"is missing (see --help)")
+fn missing(rt: &impl Print, words: Words, name: &[u8]) -> io::Result<Words> {
+    refuse(rt, words, name, b"is missing (see --help)")
 }
 
 // Whether all is there.
-fn ended(words: Words) -> Words {
+fn ended(rt: &impl Print, words: Words) -> io::Result<Words> {
     if words.refused {
-        return words;
+        return Ok(words);
     }
     if words.help {
-        return words;
+        return Ok(words);
     }
     if words.awaits_address {
-        return missing(words, b"the number after --address");
+        return missing(rt, words, b"the number after --address");
     }
     if words.awaits_busy {
-        return missing(words, b"the number after --busy");
+        return missing(rt, words, b"the number after --busy");
     }
     let read = words.read;
     match read {
-        0 => missing(words, b"STRING"),
-        1 => missing(words, b"SIZE"),
-        2 => missing(words, b"FILE"),
-        _ => words,
+        0 => missing(rt, words, b"STRING"),
+        1 => missing(rt, words, b"SIZE"),
+        2 => missing(rt, words, b"FILE"),
+        _ => Ok(words),
     }
 }
 
 // What the command line asks for; with no words at all it is help.
-pub fn read() -> Words {
-    let count = os::arg_count();
-    if count < 2 {
+pub fn read(rt: &(impl Env + Print)) -> io::Result<Words> {
+    if !is_there(rt, 1) {
         let mut words = none();
         words.help = true;
-        return words;
+        return Ok(words);
     }
-    ended(all(count))
+    ended(rt, all(rt)?)
 }
