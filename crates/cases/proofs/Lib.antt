@@ -4,7 +4,7 @@ pub mod Pairs
 pub mod Hex
 pub mod Numbers
 pub mod Puts
+pub mod Begins
 pub mod Spelled
 pub mod Texts
 pub mod Pieces
-pub mod Pinned

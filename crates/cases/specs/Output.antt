@@ -1,5 +1,5 @@
 -- What stands in the transcript's buffer after a text was put behind its first bytes, and the text of each kind of word: docs/CASES.md.
-use Rattle.std.specs.Prelude.{ℕ, zero, suc, ◌+◌, ◌-◌, ◌/◌, ◌%◌, List, [], ◌∷◌, ◌++◌, eqb, ltb, length, take, set}
+use Rattle.std.specs.Prelude.{ℕ, zero, suc, ◌≡◌, ◌+◌, ◌-◌, ◌/◌, ◌%◌, ◌^◌, ◌<◌, ◌≤◌, List, [], ◌∷◌, ◌++◌, eqb, ltb, length, take, set}
 use Rattle.ground.specs.Pick.{pick}
 use Rattle.ground.specs.Text.{codes}
 use Rattle.ground.specs.declared.Report.{Report}
@@ -24,6 +24,19 @@ put f b = pick (ltb f.held (length f.bytes)) (filled (set f.bytes f.held b) (f.h
 unfoldable pub puts : Filled → List ℕ → Filled
 puts f [] = f
 puts f (b ∷ bs) = puts (put f b) bs
+
+-- a text that was begun in a buffer: some of its first bytes were put
+abbrev pub Begun : Filled → List ℕ → List ℕ → Type 0
+Begun f s bytes = (k : ℕ) × (bytes ≡ (puts f (take k s)).bytes)
+
+-- the last k decimal digits of a number, the highest first
+abbrev pub last_digits : ℕ → ℕ → List ℕ
+last_digits zero x = []
+last_digits (suc k) x = last_digits k (x / 10) ++ ((48 + x % 10) ∷ [])
+
+-- a number has k decimal digits: one at least
+abbrev pub IsDigitCount : ℕ → ℕ → Type 0
+IsDigitCount x k = (1 ≤ k) × (x < 10 ^ k) × (1 < k → 10 ^ (k - 1) ≤ x)
 
 -- a number's decimal digits, with no leading zeros: so many at most
 unfoldable pub decimal_text : ℕ → ℕ → List ℕ

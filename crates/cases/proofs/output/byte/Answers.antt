@@ -1,0 +1,26 @@
+-- `byte` meets its contract: each way is a law of the definition.
+use Prim.Native.Nat.{ℕ, ◌+◌}
+use mathlib.Core.Path.{◌≡◌, refl, sym, ap, ◌∙◌}
+use mathlib.Core.List.{List, [], ◌∷◌, ◌++◌}
+use native.Mathlib.Omega.{arith}
+use lib.ListN.{take, drop}
+use Rattle.std.proofs.lemmas.Result.{IfOk-weaker, on_err_weaker}
+use Rattle.cases.specs.Output.{Filled, filled, put, puts}
+use Rattle.cases.proofs.Begins.{not_yet, in_front, behind}
+use Rattle.cases.proofs.Puts.{fits, full, without}
+use Rattle.cases.proofs.output.byte.Goals as goal
+
+pub returns-then-at-out-clause-held : goal.returns-then-at-out-clause-held
+returns-then-at-out-clause-held g c =
+    let a = c.args in
+    fits a.out.now a.at a.b c.if-at-out.true
+
+pub returns-then-out-gt0-clause-held : goal.returns-then-out-gt0-clause-held
+returns-then-out-gt0-clause-held g c =
+    let a = c.args in
+    full a.out.now a.at a.b c.if-at-out.false c.if-out-gt0.true
+
+pub returns-clause-held : goal.returns-clause-held
+returns-clause-held g c =
+    let a = c.args in
+    without a.out.now a.at a.b c.if-at-out.false c.if-out-gt0.false

@@ -1,0 +1,31 @@
+-- `pairs` meets its contract: what is left is put as all of it was to be.
+use Prim.Native.Nat.{◌+◌}
+use mathlib.Core.Path.{refl, sym, ap, ◌∙◌}
+use native.Mathlib.Omega.{arith}
+use lib.ListN.{take, drop, length-take}
+use Rattle.std.proofs.lemmas.Result.{on_err_weaker}
+use Rattle.cases.specs.Output.{Filled, filled, put, puts, joined, value_text, pair_text}
+use Rattle.cases.proofs.Begins.{not_yet, further, next, amid, one_of_two, holds, failed}
+use Rattle.cases.proofs.Puts.{each, all}
+use Rattle.cases.proofs.output.pairs.Goals as goal
+
+pub loop-i-init : goal.loop-i-init
+unfolding puts joined
+loop-i-init g c = (refl, refl, refl)
+
+pub returns-in_err-n-clause-begun : goal.returns-in_err-n-clause-begun
+returns-in_err-n-clause-begun g c =
+    let a = c.args in
+    let l = c.loop-i in
+    failed c.from_residual.result _ (amid pair_text (filled a.out.now a.at) (filled l.out l.n) a.bytes.now _ l.i c.loop-i-test.true l.invariant.2 c.in_err-n.ensures.begun)
+
+pub loop-i-preserved : goal.loop-i-preserved
+loop-i-preserved g c =
+    let a = c.args in
+    let l = c.loop-i in (
+      c.pair.auto.out ∙ l.invariant.0,
+      ap (λ (f : Filled). puts f (joined pair_text (drop (l.i + 1) a.bytes.now))) c.in_ok-n.ensures.held
+          ∙ sym (each pair_text (filled l.out l.n) a.bytes.now l.i c.loop-i-test.true)
+          ∙ l.invariant.1,
+      next pair_text (filled a.out.now a.at) (filled l.out l.n) _ a.bytes.now l.i c.loop-i-test.true l.invariant.2 c.in_ok-n.ensures.held,
+    )

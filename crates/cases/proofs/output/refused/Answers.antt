@@ -1,0 +1,35 @@
+-- `refused` meets its contract: the word, the number and the values.
+use Prim.Native.Nat.{◌+◌}
+use mathlib.Core.Path.{refl, sym, ap, ◌∙◌}
+use native.Mathlib.Omega.{arith}
+use lib.ListN.{take, drop, length-take}
+use Rattle.std.proofs.lemmas.Result.{on_err_weaker}
+use Rattle.cases.specs.Output.{Filled, filled, put, puts, joined, value_text, pair_text}
+use Rattle.cases.proofs.Begins.{not_yet, further, next, amid, one_of_two, holds, failed}
+use Rattle.ground.specs.Text.{codes}
+use Rattle.cases.proofs.Texts.{refuses, word_begun, number_begun, values_begun}
+use Rattle.cases.proofs.output.refused.Goals as goal
+
+pub returns-in_err-at-clause-begun : goal.returns-in_err-at-clause-begun
+unfolding codes
+returns-in_err-at-clause-begun g c =
+    let a = c.args in
+    failed c.from_residual.result _ (word_begun (filled a.out.now a.at) a.said _ c.in_err-at.ensures.begun)
+
+pub returns-in_err-at-2-clause-begun : goal.returns-in_err-at-2-clause-begun
+unfolding codes
+returns-in_err-at-2-clause-begun g c =
+    let a = c.args in
+    failed c.from_residual-in_err-at-2.result _ (number_begun (filled a.out.now a.at) _ a.said _ c.in_ok-at.ensures.held c.in_err-at-2.ensures.begun)
+
+pub returns-clause-held : goal.returns-clause-held
+unfolding codes
+returns-clause-held g c =
+    let a = c.args in
+    holds c.counted.result _ _ _ (refuses (filled a.out.now a.at) _ _ _ a.said c.in_ok-at.ensures.held c.in_ok-at-2.ensures.held refl) c.counted.ensures.held
+
+pub returns-clause-begun : goal.returns-clause-begun
+unfolding codes
+returns-clause-begun g c =
+    let a = c.args in
+    on_err_weaker c.counted.result (values_begun (filled a.out.now a.at) _ _ a.said c.counted.new.out c.in_ok-at.ensures.held c.in_ok-at-2.ensures.held) c.counted.ensures.begun
