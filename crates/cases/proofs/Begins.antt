@@ -1,10 +1,10 @@
 -- Laws of `Begun`, a text that was begun and not ended, and of the answers that are a sink's. Assumes nothing.
-use Prim.Native.Nat.{ℕ, zero, suc, ◌+◌, ◌/◌, ◌<◌, ◌≤◌}
+use Prim.Native.Nat.{ℕ, zero, suc, ◌+◌, ◌/◌, ◌<◌}
 use mathlib.Core.Path.{◌≡◌, refl, sym, ap, ◌∙◌}
 use mathlib.Core.List.{List, [], ◌∷◌, ◌++◌, append_assoc, append-nil}
 use native.Mathlib.Numerals.{add-one}
 use lib.ListN.{length, take, drop, get_or, take-append-drop}
-use lib.Seq.{take_all, take-suc, drop-cons}
+use lib.Seq.{take-suc, drop-cons}
 use Rattle.std.proofs.Common.{Ok, Err}
 use Rattle.std.specs.Result.{IfOk, OnErr}
 use Rattle.std.specs.declared.result.Result.{Result}
@@ -34,8 +34,7 @@ take_behind (b ∷ s) t k = let r = take_behind s t k in (suc r.0, ap (λ (x : L
 
 pub behind : (f g : Filled) (s t bytes : List ℕ) → g ≡ puts f s → Begun g t bytes → Begun f (s ++ t) bytes
 behind f g s t bytes e b =
-    let n = take_behind s t b.0 in
-    (
+    let n = take_behind s t b.0 in (
       n.0,
       b.1
           ∙ ap (λ (h : Filled). (puts h (take b.0 t)).bytes) e
@@ -58,7 +57,7 @@ unfolding joined
 parts text [] ys = refl
 parts text (x ∷ xs) ys = ap (λ (t : List ℕ). text x ++ t) (parts text xs ys) ∙ sym (append_assoc (text x) (joined text xs) (joined text ys))
 
-up_to : (text : ℕ → List ℕ) (xs : List ℕ) (i : ℕ) → i < length xs → joined text (take (i + 1) xs) ≡ joined text (take i xs) ++ text (get_or xs i 0)
+pub up_to : (text : ℕ → List ℕ) (xs : List ℕ) (i : ℕ) → i < length xs → joined text (take (i + 1) xs) ≡ joined text (take i xs) ++ text (get_or xs i 0)
 unfolding joined
 up_to text xs i h =
     ap (λ (n : ℕ). joined text (take n xs)) (add-one i)

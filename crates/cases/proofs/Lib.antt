@@ -5,6 +5,7 @@ pub mod Hex
 pub mod Numbers
 pub mod Puts
 pub mod Begins
+pub mod Tells
 pub mod Spelled
 pub mod Texts
 pub mod Pieces

@@ -7,9 +7,11 @@ use lib.ListN.{length, take, drop, get_or, length-take}
 use lib.Seq.{get_or-take}
 use Rattle.ground.specs.Text.{codes}
 use Rattle.ground.specs.declared.Report.{Report}
-use Rattle.cases.specs.Output.{Filled, put, puts, Begun, joined, value_text, pages_text, counted_of, refused_text, pair_text, hex_text}
+use Rattle.std.specs.declared.option.Option.{Option}
+use Rattle.cases.specs.Output.{Filled, put, puts, Begun, Told, joined, value_text, pages_text, counted_of, refused_text, pair_text, hex_text}
 use Rattle.cases.proofs.Puts.{one, both, each, all}
 use Rattle.cases.proofs.Begins.{in_front, behind, next, amid}
+use Rattle.cases.proofs.Tells
 
 -- how many pages there are, a page, and the end
 pub counted : (f g : Filled) (pages : List ℕ) (n : ℕ) → g ≡ puts f (value_text n) → puts g (joined value_text (take n pages)) ≡ puts f (pages_text pages n)
@@ -92,3 +94,27 @@ pub bytes_begun : (f g : Filled) (bs bytes : List ℕ) → (length bs ≡ 0 → 
 unfolding hex_text
 bytes_begun f g [] bytes n p b = absurd (n refl)
 bytes_begun f g (c ∷ bs) bytes n p b = behind f g (32 ∷ []) (joined pair_text (c ∷ bs)) bytes (p ∙ one f 32) b
+
+-- the text of HEX
+pub no_bytes : (bs : List ℕ) → length bs ≡ 0 → codes " -" ≡ hex_text bs
+unfolding hex_text
+no_bytes [] e = refl
+no_bytes (c ∷ bs) e = absurd (omega arith)
+
+pub some_bytes : (bs : List ℕ) → (length bs ≡ 0 → ⊥) → 32 ∷ joined pair_text bs ≡ hex_text bs
+unfolding hex_text
+some_bytes [] n = absurd (n refl)
+some_bytes (c ∷ bs) n = refl
+
+-- pages told: one more, and all
+pub page_told : (a b c : Option (List ℕ)) (f g h : Filled) (pages : List ℕ) (n i w : ℕ) → i < n → i < length pages → w ≡ get_or pages i 0
+    → Told a f b g (joined value_text (take i (take n pages))) → Told b g c h (value_text w) → Told a f c h (joined value_text (take (i + 1) (take n pages)))
+page_told a b c f g h pages n i w k l e p q =
+    Tells.next value_text a b c f g h (take n pages) i (omega (arith, length-take n pages)) p
+    (Tells.same b c g h _ _ (ap value_text (e ∙ sym (get_or-take n pages i 0 k))) q)
+
+pub pages_told : (a b c : Option (List ℕ)) (f g h : Filled) (pages : List ℕ) (n i : ℕ) → length (take n pages) ≤ i → Told a f b g (value_text n)
+    → Told b g c h (joined value_text (take i (take n pages))) → Told a f c h (pages_text pages n)
+unfolding pages_text joined
+pages_told a b c f g h pages n i k p q =
+    Tells.both a b c f g h (value_text n) (joined value_text (take n pages)) p (Tells.all value_text b c g h (take n pages) i k q)

@@ -1,5 +1,7 @@
 -- What stands in the transcript's buffer after a text was put behind its first bytes, and the text of each kind of word: docs/CASES.md.
 use Rattle.std.specs.Prelude.{ℕ, zero, suc, ◌≡◌, ◌+◌, ◌-◌, ◌/◌, ◌%◌, ◌^◌, ◌<◌, ◌≤◌, List, [], ◌∷◌, ◌++◌, eqb, ltb, length, take, set}
+use Rattle.std.specs.Io.KnownBytes.{append_known, Appends}
+use Rattle.std.specs.declared.option.Option.{Option}
 use Rattle.ground.specs.Pick.{pick}
 use Rattle.ground.specs.Text.{codes}
 use Rattle.ground.specs.declared.Report.{Report}
@@ -28,6 +30,18 @@ puts f (b ∷ bs) = puts (put f b) bs
 -- a text that was begun in a buffer: some of its first bytes were put
 abbrev pub Begun : Filled → List ℕ → List ℕ → Type 0
 Begun f s bytes = (k : ℕ) × (bytes ≡ (puts f (take k s)).bytes)
+
+-- the transcript so far, where it is known what the sink holds: that, and behind it what the buffer holds
+abbrev pub so_far : Option (List ℕ) → Filled → Option (List ℕ)
+so_far known f = append_known known (take f.held f.bytes)
+
+-- a buffer with room, which holds no more bytes than it has
+abbrev pub IsSound : Filled → Type 0
+IsSound f = (0 < length f.bytes) × (f.held ≤ length f.bytes)
+
+-- a text was told: it stands behind what the transcript was
+abbrev pub Told : Option (List ℕ) → Filled → Option (List ℕ) → Filled → List ℕ → Type 0
+Told old f new g s = IsSound f → IsSound g × Appends (so_far old f) (so_far new g) s
 
 -- the last k decimal digits of a number, the highest first
 abbrev pub last_digits : ℕ → ℕ → List ℕ

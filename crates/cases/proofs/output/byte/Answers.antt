@@ -1,12 +1,4 @@
 -- `byte` meets its contract: each way is a law of the definition.
-use Prim.Native.Nat.{ℕ, ◌+◌}
-use mathlib.Core.Path.{◌≡◌, refl, sym, ap, ◌∙◌}
-use mathlib.Core.List.{List, [], ◌∷◌, ◌++◌}
-use native.Mathlib.Omega.{arith}
-use lib.ListN.{take, drop}
-use Rattle.std.proofs.lemmas.Result.{IfOk-weaker, on_err_weaker}
-use Rattle.cases.specs.Output.{Filled, filled, put, puts}
-use Rattle.cases.proofs.Begins.{not_yet, in_front, behind}
 use Rattle.cases.proofs.Puts.{fits, full, without}
 use Rattle.cases.proofs.output.byte.Goals as goal
 

@@ -1,6 +1,6 @@
 use mathlib.Core.Path.{◌≡◌, sym, ap, subst, ◌∙◌}
 use Prim.Native.Nat.{ℕ, ◌+◌, ◌-◌, ◌*◌, ◌/◌, ◌^◌, ◌<◌, ◌≤◌}
-use native.Mathlib.Nat.{one-mul, pow-zero, pow-suc, one-le-pow, div-div-eq-div-mul, le-div_iff_mul-le, div-lt_iff_lt-mul}
+use native.Mathlib.Nat.{pow-zero, pow-suc, one-le-pow, div-div-eq-div-mul, le-div_iff_mul-le, div-lt_iff_lt-mul}
 use native.Mathlib.Numerals.{add-one}
 use native.Mathlib.Omega.{arith}
 use Rattle.cases.proofs.output.digit_count.Goals as goal

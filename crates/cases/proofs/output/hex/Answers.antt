@@ -1,13 +1,12 @@
 -- `hex` meets its contract: a hyphen, or a space and the pairs.
-use Prim.Native.Nat.{◌+◌}
-use mathlib.Core.Path.{refl, sym, ap, ◌∙◌}
-use native.Mathlib.Omega.{arith}
-use lib.ListN.{take, drop, length-take}
+use mathlib.Core.List.{[], ◌∷◌}
+use mathlib.Core.Path.{refl}
 use Rattle.std.proofs.lemmas.Result.{on_err_weaker}
-use Rattle.cases.specs.Output.{Filled, filled, put, puts, joined, value_text, pair_text}
-use Rattle.cases.proofs.Begins.{not_yet, further, next, amid, one_of_two, holds, failed}
+use Rattle.cases.specs.Output.{filled}
+use Rattle.cases.proofs.Begins.{not_yet, holds, failed}
 use Rattle.ground.specs.Text.{codes}
-use Rattle.cases.proofs.Texts.{hyphen, bytes, hyphen_begun, bytes_begun}
+use Rattle.cases.proofs.Texts.{hyphen, bytes, hyphen_begun, bytes_begun, no_bytes, some_bytes}
+use Rattle.cases.proofs.Tells
 use Rattle.cases.proofs.output.hex.Goals as goal
 
 pub returns-then-bytes-eq0-clause-held : goal.returns-then-bytes-eq0-clause-held
@@ -36,3 +35,15 @@ pub returns-clause-begun : goal.returns-clause-begun
 returns-clause-begun g c =
     let a = c.args in
     on_err_weaker c.pairs.result (bytes_begun (filled a.out.now a.at) _ a.bytes.now c.pairs.new.out c.if-bytes-eq0.false c.in_ok-at.ensures.held) c.pairs.ensures.begun
+
+pub returns-then-bytes-eq0-clause-told : goal.returns-then-bytes-eq0-clause-told
+unfolding codes
+returns-then-bytes-eq0-clause-told g c =
+    let a = c.args in
+    Tells.alike c.text.result _ _ (filled a.out.now a.at) c.text.new.out (codes " -") _ (no_bytes a.bytes.now c.if-bytes-eq0.true) c.text.ensures.told
+
+pub returns-clause-told : goal.returns-clause-told
+returns-clause-told g c =
+    let a = c.args in
+    Tells.alike c.pairs.result _ _ (filled a.out.now a.at) c.pairs.new.out _ _ (some_bytes a.bytes.now c.if-bytes-eq0.false)
+    (Tells.behind c.pairs.result _ _ _ (filled a.out.now a.at) (filled c.byte.new.out c.in_ok-at.at) c.pairs.new.out (32 ∷ []) _ c.in_ok-at.ensures.told c.pairs.ensures.told)

@@ -1,11 +1,6 @@
 -- `line_end` meets its contract: a text of one byte.
-use Prim.Native.Nat.{◌+◌}
-use mathlib.Core.Path.{refl, sym, ap, ◌∙◌}
-use native.Mathlib.Omega.{arith}
-use lib.ListN.{take, drop, length-take}
-use Rattle.std.proofs.lemmas.Result.{on_err_weaker}
-use Rattle.cases.specs.Output.{Filled, filled, put, puts, joined, value_text, pair_text}
-use Rattle.cases.proofs.Begins.{not_yet, further, next, amid, one_of_two, holds, failed}
+use Rattle.cases.specs.Output.{filled}
+use Rattle.cases.proofs.Begins.{holds}
 use Rattle.cases.proofs.Puts.{one}
 use Rattle.cases.proofs.output.line_end.Goals as goal
 

@@ -1,12 +1,12 @@
 -- `pages` meets its contract: the pages that are left are put as all of them were to be.
-use Prim.Native.Nat.{◌+◌}
-use mathlib.Core.Path.{refl, sym, ap, ◌∙◌}
+use mathlib.Core.Path.{refl, ◌∙◌}
 use native.Mathlib.Omega.{arith}
-use lib.ListN.{take, drop, length-take}
-use Rattle.std.proofs.lemmas.Result.{on_err_weaker}
-use Rattle.cases.specs.Output.{Filled, filled, put, puts, joined, value_text, pair_text}
-use Rattle.cases.proofs.Begins.{not_yet, further, next, amid, one_of_two, holds, failed}
+use lib.ListN.{length-take}
+use Rattle.cases.specs.Output.{filled, puts, joined}
+use Rattle.cases.proofs.Begins.{failed}
 use Rattle.cases.proofs.Texts.{counted, paged, ended, page, count_begun, page_begun}
+use Rattle.cases.proofs.Tells
+use Rattle.cases.proofs.Texts.{page_told, pages_told}
 use Rattle.cases.proofs.output.pages.Goals as goal
 
 pub returns-in_err-at-clause-begun : goal.returns-in_err-at-clause-begun
@@ -16,7 +16,7 @@ returns-in_err-at-clause-begun g c =
 
 pub loop-i-init : goal.loop-i-init
 unfolding puts joined
-loop-i-init g c = (refl, refl, refl)
+loop-i-init g c = (refl, refl, refl, Tells.silent _ (filled c.value.new.out c.in_ok-at.at))
 
 pub returns-then-store-i-clause-held : goal.returns-then-store-i-clause-held
 returns-then-store-i-clause-held g c =
@@ -40,6 +40,7 @@ loop-i-preserved g c =
       v.auto.out ∙ l.invariant.0,
       paged (filled l.out l.at) _ a.store.now a.n l.i c.wide.result c.loop-i-test.true c.if-store-i.false c.wide.ensures c.in_ok-at-2.ensures.held ∙ l.invariant.1,
       page _ (filled l.out l.at) _ a.store.now a.n l.i c.wide.result c.loop-i-test.true c.if-store-i.false c.wide.ensures l.invariant.2 c.in_ok-at-2.ensures.held,
+      page_told _ _ _ _ (filled l.out l.at) _ a.store.now a.n l.i c.wide.result c.loop-i-test.true c.if-store-i.false c.wide.ensures l.invariant.3 c.in_ok-at-2.ensures.told,
     )
 
 pub returns-clause-held : goal.returns-clause-held
@@ -49,3 +50,15 @@ returns-clause-held g c =
     ended (filled l.out l.at) a.store.now a.n l.i (omega (arith, length-take a.n a.store.now, c.loop-i-test.false))
     ∙ l.invariant.1
     ∙ counted (filled a.out.now a.at) _ a.store.now a.n c.in_ok-at.ensures.held
+
+pub returns-then-store-i-clause-told : goal.returns-then-store-i-clause-told
+returns-then-store-i-clause-told g c =
+    let a = c.args in
+    let l = c.loop-i in
+    pages_told _ _ _ (filled a.out.now a.at) _ (filled l.out l.at) a.store.now a.n l.i (omega (arith, length-take a.n a.store.now, c.if-store-i.true)) c.in_ok-at.ensures.told l.invariant.3
+
+pub returns-clause-told : goal.returns-clause-told
+returns-clause-told g c =
+    let a = c.args in
+    let l = c.loop-i in
+    pages_told _ _ _ (filled a.out.now a.at) _ (filled l.out l.at) a.store.now a.n l.i (omega (arith, length-take a.n a.store.now, c.loop-i-test.false)) c.in_ok-at.ensures.told l.invariant.3

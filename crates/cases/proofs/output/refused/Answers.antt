@@ -1,13 +1,11 @@
 -- `refused` meets its contract: the word, the number and the values.
-use Prim.Native.Nat.{◌+◌}
-use mathlib.Core.Path.{refl, sym, ap, ◌∙◌}
-use native.Mathlib.Omega.{arith}
-use lib.ListN.{take, drop, length-take}
+use mathlib.Core.Path.{refl}
 use Rattle.std.proofs.lemmas.Result.{on_err_weaker}
-use Rattle.cases.specs.Output.{Filled, filled, put, puts, joined, value_text, pair_text}
-use Rattle.cases.proofs.Begins.{not_yet, further, next, amid, one_of_two, holds, failed}
+use Rattle.cases.specs.Output.{filled, joined, value_text, refused_text}
+use Rattle.cases.proofs.Begins.{holds, failed}
 use Rattle.ground.specs.Text.{codes}
 use Rattle.cases.proofs.Texts.{refuses, word_begun, number_begun, values_begun}
+use Rattle.cases.proofs.Tells
 use Rattle.cases.proofs.output.refused.Goals as goal
 
 pub returns-in_err-at-clause-begun : goal.returns-in_err-at-clause-begun
@@ -33,3 +31,12 @@ unfolding codes
 returns-clause-begun g c =
     let a = c.args in
     on_err_weaker c.counted.result (values_begun (filled a.out.now a.at) _ _ a.said c.counted.new.out c.in_ok-at.ensures.held c.in_ok-at-2.ensures.held) c.counted.ensures.begun
+
+pub returns-clause-told : goal.returns-clause-told
+unfolding codes refused_text joined
+returns-clause-told g c =
+    let a = c.args in
+    let word = (filled c.text.new.out c.in_ok-at.at) in
+    let number = (filled c.value.new.out c.in_ok-at-2.at) in
+    Tells.behind c.counted.result _ _ _ (filled a.out.now a.at) word c.counted.new.out (codes " refused") _ c.in_ok-at.ensures.told
+    (Tells.behind c.counted.result _ _ _ word number c.counted.new.out (value_text a.said.number) _ c.in_ok-at-2.ensures.told c.counted.ensures.told)

@@ -1,17 +1,16 @@
 -- `text` meets its contract: what is left of the text is put as the whole was to be.
 use Prim.Native.Nat.{◌+◌}
 use mathlib.Core.Path.{refl, sym, ap, ◌∙◌}
-use native.Mathlib.Omega.{arith}
-use lib.ListN.{take, drop, length-take}
-use Rattle.std.proofs.lemmas.Result.{on_err_weaker}
-use Rattle.cases.specs.Output.{Filled, filled, put, puts, joined, value_text, pair_text}
-use Rattle.cases.proofs.Begins.{not_yet, further, next, amid, one_of_two, holds, failed}
-use Rattle.cases.proofs.Puts.{turn, over}
+use lib.ListN.{drop}
+use Rattle.cases.specs.Output.{Filled, filled, puts}
+use Rattle.cases.proofs.Begins.{further}
+use Rattle.cases.proofs.Puts.{turn}
+use Rattle.cases.proofs.Tells
 use Rattle.cases.proofs.output.text.Goals as goal
 
 pub loop-i-init : goal.loop-i-init
 unfolding puts
-loop-i-init g c = (refl, refl, refl)
+loop-i-init g c = (refl, refl, refl, Tells.silent _ (filled c.args.out.now c.args.at))
 
 pub loop-i-preserved : goal.loop-i-preserved
 loop-i-preserved g c =
@@ -22,4 +21,5 @@ loop-i-preserved g c =
           ∙ sym (turn (filled l.out l.n) a.s.now l.i c.loop-i-test.true)
           ∙ l.invariant.1,
       further (filled a.out.now a.at) (filled l.out l.n) _ a.s.now l.i c.loop-i-test.true l.invariant.2 c.in_ok-n.ensures.held,
+      Tells.further _ _ _ (filled a.out.now a.at) (filled l.out l.n) _ a.s.now l.i c.loop-i-test.true l.invariant.3 c.in_ok-n.ensures.told,
     )

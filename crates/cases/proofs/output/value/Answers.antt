@@ -1,12 +1,13 @@
 -- `value` meets its contract: a space, and the digits that `decimal` gives.
-use Prim.Native.Nat.{◌+◌}
-use mathlib.Core.Path.{refl, sym, ap, ◌∙◌}
+use Prim.Native.Nat.{ℕ}
+use mathlib.Core.List.{List, [], ◌∷◌}
+use mathlib.Core.Path.{refl, ap, ◌∙◌}
 use native.Mathlib.Omega.{arith}
-use lib.ListN.{take, drop, length-take}
 use Rattle.std.proofs.lemmas.Result.{on_err_weaker}
-use Rattle.cases.specs.Output.{Filled, filled, put, puts, joined, value_text, pair_text}
-use Rattle.cases.proofs.Begins.{not_yet, further, next, amid, one_of_two, holds, failed}
-use Rattle.cases.proofs.Spelled.{valued, value_begun}
+use Rattle.cases.specs.Output.{filled, value_text}
+use Rattle.cases.proofs.Begins.{not_yet, holds, failed}
+use Rattle.cases.proofs.Spelled.{spelled, valued, value_begun}
+use Rattle.cases.proofs.Tells
 use Rattle.cases.proofs.output.value.Goals as goal
 
 pub returns-in_err-at-clause-begun : goal.returns-in_err-at-clause-begun
@@ -25,3 +26,11 @@ returns-clause-begun g c =
     let a = c.args in
     let d = c.decimal-n in
     on_err_weaker c.text.result (value_begun (filled a.out.now a.at) (filled c.byte.new.out c.in_ok-at.at) _ c.text.new.out d.result a.x (omega arith) d.ensures.count d.ensures.digits c.in_ok-at.ensures.held) c.text.ensures.begun
+
+pub returns-clause-told : goal.returns-clause-told
+unfolding value_text
+returns-clause-told g c =
+    let a = c.args in
+    let d = c.decimal-n in
+    Tells.alike c.text.result _ _ (filled a.out.now a.at) c.text.new.out _ _ (ap (λ (t : List ℕ). 32 ∷ t) (d.ensures.digits ∙ spelled 20 d.result a.x d.ensures.bound d.ensures.count))
+    (Tells.behind c.text.result _ _ _ (filled a.out.now a.at) (filled c.byte.new.out c.in_ok-at.at) c.text.new.out (32 ∷ []) _ c.in_ok-at.ensures.told c.text.ensures.told)

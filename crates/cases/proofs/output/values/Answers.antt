@@ -1,17 +1,16 @@
 -- `values` meets its contract: what is left is put as all of it was to be.
 use Prim.Native.Nat.{◌+◌}
 use mathlib.Core.Path.{refl, sym, ap, ◌∙◌}
-use native.Mathlib.Omega.{arith}
-use lib.ListN.{take, drop, length-take}
-use Rattle.std.proofs.lemmas.Result.{on_err_weaker}
-use Rattle.cases.specs.Output.{Filled, filled, put, puts, joined, value_text, pair_text}
-use Rattle.cases.proofs.Begins.{not_yet, further, next, amid, one_of_two, holds, failed}
-use Rattle.cases.proofs.Puts.{each, all}
+use lib.ListN.{drop}
+use Rattle.cases.specs.Output.{Filled, filled, puts, joined, value_text}
+use Rattle.cases.proofs.Begins.{next, amid, failed}
+use Rattle.cases.proofs.Puts.{each}
+use Rattle.cases.proofs.Tells
 use Rattle.cases.proofs.output.values.Goals as goal
 
 pub loop-i-init : goal.loop-i-init
 unfolding puts joined
-loop-i-init g c = (refl, refl, refl)
+loop-i-init g c = (refl, refl, refl, Tells.silent _ (filled c.args.out.now c.args.at))
 
 pub returns-in_err-n-clause-begun : goal.returns-in_err-n-clause-begun
 returns-in_err-n-clause-begun g c =
@@ -28,4 +27,5 @@ loop-i-preserved g c =
           ∙ sym (each value_text (filled l.out l.n) a.xs.now l.i c.loop-i-test.true)
           ∙ l.invariant.1,
       next value_text (filled a.out.now a.at) (filled l.out l.n) _ a.xs.now l.i c.loop-i-test.true l.invariant.2 c.in_ok-n.ensures.held,
+      Tells.next value_text _ _ _ (filled a.out.now a.at) (filled l.out l.n) _ a.xs.now l.i c.loop-i-test.true l.invariant.3 c.in_ok-n.ensures.told,
     )
