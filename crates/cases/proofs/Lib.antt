@@ -9,3 +9,4 @@ pub mod Tells
 pub mod Spelled
 pub mod Texts
 pub mod Pieces
+pub mod Pinned
