@@ -1,6 +1,5 @@
 -- `bad_line` meets its contract: the text is the definition's.
 use Rattle.ground.specs.Text.{codes}
-
 use Rattle.cases.proofs.output.bad_line.Goals as goal
 
 pub returns-clause-held : goal.returns-clause-held
