@@ -1,9 +1,10 @@
-// Lines out of standard input, which is read in pieces: a piece is gone through from newline to newline, and what is
-// passed is gathered in the line's buffer. What is read comes from outside: of that turn a contract says only that it is
-// counted, and that it leaves the line alone.
+// Lines out of an input, which is read in pieces: a piece is gone through from newline to newline, and what is passed is
+// gathered in the line's buffer. A piece is the next bytes of the reader, as far as the reader's contract says which
+// those are; of standard input no contract does.
 ghost use Rattle.std.specs.Prelude.{◌≡◌, ◌+◌, ◌<◌, ◌≤◌, length, IfOk, OnErr, MatchResult};
+ghost use Rattle.std.specs.Io.KnownBytes.{Keeps};
 ghost use Rattle.cases.specs.Output.{filled};
-ghost use Rattle.cases.specs.Lines.{outset, left_of, up_to, adds, kept_of, begun_of, passes, passed_of};
+ghost use Rattle.cases.specs.Lines.{outset, left_of, up_to, adds, kept_of, begun_of, Reads, passes, passed_of};
 
 use std::io;
 use std::io::Read;
@@ -125,7 +126,9 @@ fn passed(place: Place, input: &[u8], line: &mut [u8]) -> Place
 
 // Reads the next piece. At the input's end the line is whole, with no newline; it is empty if there was one.
 fn filled<R: Read>(source: &mut R, place: Place, input: &mut [u8]) -> io::Result<Place>
-    ensures { IfOk result (λ p. p.turns ≤ place.turns) }
+    ensures turns { IfOk result (λ p. p.turns ≤ place.turns) }
+    ensures piece { IfOk result (λ p. Reads (R.remaining source.old) (R.remaining source.new) place input.new p) }
+    ensures unread { OnErr result (Keeps (R.remaining source.old) (R.remaining source.new)) }
 {
     let got = source.read(input)?;
     if got == 0 {
@@ -146,7 +149,7 @@ fn filled<R: Read>(source: &mut R, place: Place, input: &mut [u8]) -> io::Result
     })
 }
 
-// One turn: a part of the piece, or the next piece. Only the next piece can fail to be read, and it leaves the line alone.
+// One turn: a part of the piece, or the next piece. Only the next piece can fail to be read, and then nothing is lost.
 pub fn next<R: Read>(
     source: &mut R,
     place: Place,
@@ -157,7 +160,11 @@ pub fn next<R: Read>(
     ensures turns_lt_turns { IfOk result (λ p. p.turns < place.turns) }
     ensures line_after { place.from < place.end → MatchResult result
         (λ p. passes p line.new ≡ passed_of (begun_of place) input.old line.old) (λ _. ⊥) }
+    ensures source_kept { place.from < place.end → source.new ≡ source.old }
     ensures line_kept { place.end ≤ place.from → line.new ≡ line.old }
+    ensures piece { place.end ≤ place.from → IfOk result
+        (λ p. Reads (R.remaining source.old) (R.remaining source.new) (begun_of place) input.new p) }
+    ensures unread { OnErr result (Keeps (R.remaining source.old) (R.remaining source.new)) }
 {
     let now = begun(place);
     if now.from < now.end {
