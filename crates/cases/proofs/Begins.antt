@@ -65,7 +65,7 @@ up_to text xs i h =
     ∙ parts text (take i xs) (get_or xs i 0 ∷ [])
     ∙ ap (λ (t : List ℕ). joined text (take i xs) ++ t) (append-nil (text (get_or xs i 0)))
 
-from : (text : ℕ → List ℕ) (xs : List ℕ) (i : ℕ) → i < length xs → joined text (take i xs) ++ (text (get_or xs i 0) ++ joined text (drop (suc i) xs)) ≡ joined text xs
+pub from : (text : ℕ → List ℕ) (xs : List ℕ) (i : ℕ) → i < length xs → joined text (take i xs) ++ (text (get_or xs i 0) ++ joined text (drop (suc i) xs)) ≡ joined text xs
 unfolding joined
 from text xs i h =
     ap (λ (t : List ℕ). joined text (take i xs) ++ joined text t) (sym (drop-cons xs i 0 h))

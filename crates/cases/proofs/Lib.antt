@@ -6,6 +6,7 @@ pub mod Numbers
 pub mod Puts
 pub mod Begins
 pub mod Tells
+pub mod Rooms
 pub mod Spelled
 pub mod Texts
 pub mod Pieces

@@ -8,10 +8,11 @@ use lib.Seq.{get_or-take}
 use Rattle.ground.specs.Text.{codes}
 use Rattle.ground.specs.declared.Report.{Report}
 use Rattle.std.specs.declared.option.Option.{Option}
-use Rattle.cases.specs.Output.{Filled, put, puts, Begun, Told, joined, value_text, pages_text, counted_of, refused_text, pair_text, hex_text}
+use Rattle.cases.specs.Output.{Filled, put, puts, Begun, Told, Takes, joined, value_text, pages_text, counted_of, refused_text, pair_text, hex_text}
 use Rattle.cases.proofs.Puts.{one, both, each, all}
 use Rattle.cases.proofs.Begins.{in_front, behind, next, amid}
 use Rattle.cases.proofs.Tells
+use Rattle.cases.proofs.Rooms
 
 -- how many pages there are, a page, and the end
 pub counted : (f g : Filled) (pages : List ℕ) (n : ℕ) → g ≡ puts f (value_text n) → puts g (joined value_text (take n pages)) ≡ puts f (pages_text pages n)
@@ -118,3 +119,11 @@ pub pages_told : (a b c : Option (List ℕ)) (f g h : Filled) (pages : List ℕ)
 unfolding pages_text joined
 pages_told a b c f g h pages n i k p q =
     Tells.both a b c f g h (value_text n) (joined value_text (take n pages)) p (Tells.all value_text b c g h (take n pages) i k q)
+
+-- the room for a page
+pub page_room : (f g h : Filled) (pages : List ℕ) (n i w : ℕ) → i < n → i < length pages → w ≡ get_or pages i 0 → g ≡ puts f (value_text n)
+    → h ≡ puts g (joined value_text (take i (take n pages))) → Takes f (pages_text pages n) → Takes h (value_text w)
+unfolding pages_text joined
+page_room f g h pages n i w k l e p q t =
+    Rooms.same h _ _ (ap value_text (get_or-take n pages i 0 k ∙ sym e))
+    (Rooms.amid value_text g h (take n pages) i (omega (arith, length-take n pages)) q (Rooms.behind f g (value_text n) (joined value_text (take n pages)) p t))

@@ -27,6 +27,10 @@ unfoldable pub puts : Filled → List ℕ → Filled
 puts f [] = f
 puts f (b ∷ bs) = puts (put f b) bs
 
+-- a buffer that has room for a text behind the bytes that it holds
+abbrev pub Takes : Filled → List ℕ → Type 0
+Takes f s = f.held + length s ≤ length f.bytes
+
 -- a text that was begun in a buffer: some of its first bytes were put
 abbrev pub Begun : Filled → List ℕ → List ℕ → Type 0
 Begun f s bytes = (k : ℕ) × (bytes ≡ (puts f (take k s)).bytes)

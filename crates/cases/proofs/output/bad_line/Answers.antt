@@ -13,3 +13,7 @@ returns-clause-begun g c = c.text.ensures.begun
 pub returns-clause-told : goal.returns-clause-told
 unfolding codes
 returns-clause-told g c = c.text.ensures.told
+
+pub returns-clause-room : goal.returns-clause-room
+unfolding codes
+returns-clause-room g c = c.text.ensures.room

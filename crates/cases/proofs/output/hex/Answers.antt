@@ -1,12 +1,15 @@
 -- `hex` meets its contract: a hyphen, or a space and the pairs.
 use mathlib.Core.List.{[], ◌∷◌}
-use mathlib.Core.Path.{refl}
+use mathlib.Core.Path.{refl, sym, ◌∙◌}
 use Rattle.std.proofs.lemmas.Result.{on_err_weaker}
-use Rattle.cases.specs.Output.{filled}
+use Rattle.cases.specs.Output.{filled, joined, pair_text}
 use Rattle.cases.proofs.Begins.{not_yet, holds, failed}
 use Rattle.ground.specs.Text.{codes}
 use Rattle.cases.proofs.Texts.{hyphen, bytes, hyphen_begun, bytes_begun, no_bytes, some_bytes}
 use Rattle.cases.proofs.Tells
+use Rattle.std.proofs.lemmas.Bool.{false≢true}
+use Rattle.cases.proofs.Rooms
+use Rattle.cases.proofs.Puts.{one}
 use Rattle.cases.proofs.output.hex.Goals as goal
 
 pub returns-then-bytes-eq0-clause-held : goal.returns-then-bytes-eq0-clause-held
@@ -47,3 +50,21 @@ returns-clause-told g c =
     let a = c.args in
     Tells.alike c.pairs.result _ _ (filled a.out.now a.at) c.pairs.new.out _ _ (some_bytes a.bytes.now c.if-bytes-eq0.false)
     (Tells.behind c.pairs.result _ _ _ (filled a.out.now a.at) (filled c.byte.new.out c.in_ok-at.at) c.pairs.new.out (32 ∷ []) _ c.in_ok-at.ensures.told c.pairs.ensures.told)
+
+pub returns-then-bytes-eq0-clause-room : goal.returns-then-bytes-eq0-clause-room
+unfolding codes
+returns-then-bytes-eq0-clause-room g c =
+    let a = c.args in
+    λ h. c.text.ensures.room (Rooms.same (filled a.out.now a.at) _ (codes " -") (sym (no_bytes a.bytes.now c.if-bytes-eq0.true)) h)
+
+pub returns-in_err-at-clause-room : goal.returns-in_err-at-clause-room
+returns-in_err-at-clause-room g c =
+    let a = c.args in
+    λ h. absurd (false≢true (c.in_err-at.ensures.room (Rooms.front (filled a.out.now a.at) (32 ∷ []) (joined pair_text a.bytes.now) (Rooms.same (filled a.out.now a.at) _ _ (sym (some_bytes a.bytes.now c.if-bytes-eq0.false)) h))))
+
+pub returns-clause-room : goal.returns-clause-room
+returns-clause-room g c =
+    let a = c.args in
+    λ h. c.pairs.ensures.room
+    (Rooms.behind (filled a.out.now a.at) _ (32 ∷ []) (joined pair_text a.bytes.now) (c.in_ok-at.ensures.held ∙ one (filled a.out.now a.at) 32)
+    (Rooms.same (filled a.out.now a.at) _ _ (sym (some_bytes a.bytes.now c.if-bytes-eq0.false)) h))

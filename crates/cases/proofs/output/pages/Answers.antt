@@ -1,12 +1,14 @@
 -- `pages` meets its contract: the pages that are left are put as all of them were to be.
 use mathlib.Core.Path.{refl, ◌∙◌}
 use native.Mathlib.Omega.{arith}
-use lib.ListN.{length-take}
-use Rattle.cases.specs.Output.{filled, puts, joined}
+use lib.ListN.{length-take, take}
+use Rattle.cases.specs.Output.{filled, puts, joined, pages_text, value_text}
 use Rattle.cases.proofs.Begins.{failed}
-use Rattle.cases.proofs.Texts.{counted, paged, ended, page, count_begun, page_begun}
+use Rattle.cases.proofs.Texts.{counted, paged, ended, page, count_begun, page_begun, page_room}
 use Rattle.cases.proofs.Tells
 use Rattle.cases.proofs.Texts.{page_told, pages_told}
+use Rattle.std.proofs.lemmas.Bool.{false≢true}
+use Rattle.cases.proofs.Rooms
 use Rattle.cases.proofs.output.pages.Goals as goal
 
 pub returns-in_err-at-clause-begun : goal.returns-in_err-at-clause-begun
@@ -62,3 +64,15 @@ returns-clause-told g c =
     let a = c.args in
     let l = c.loop-i in
     pages_told _ _ _ (filled a.out.now a.at) _ (filled l.out l.at) a.store.now a.n l.i (omega (arith, length-take a.n a.store.now, c.loop-i-test.false)) c.in_ok-at.ensures.told l.invariant.3
+
+pub returns-in_err-at-clause-room : goal.returns-in_err-at-clause-room
+unfolding pages_text joined
+returns-in_err-at-clause-room g c =
+    let a = c.args in
+    λ h. absurd (false≢true (c.in_err-at.ensures.room (Rooms.front (filled a.out.now a.at) (value_text a.n) (joined value_text (take a.n a.store.now)) h)))
+
+pub returns-in_err-at-2-clause-room : goal.returns-in_err-at-2-clause-room
+returns-in_err-at-2-clause-room g c =
+    let a = c.args in
+    let l = c.loop-i in
+    λ h. absurd (false≢true (c.in_err-at-2.ensures.room (page_room (filled a.out.now a.at) _ (filled l.out l.at) a.store.now a.n l.i c.wide.result c.loop-i-test.true c.if-store-i.false c.wide.ensures c.in_ok-at.ensures.held l.invariant.2 h)))

@@ -6,6 +6,8 @@ use Rattle.cases.specs.Output.{Filled, filled, puts}
 use Rattle.cases.proofs.Begins.{further}
 use Rattle.cases.proofs.Puts.{turn}
 use Rattle.cases.proofs.Tells
+use Rattle.std.proofs.lemmas.Bool.{false≢true}
+use Rattle.cases.proofs.Rooms
 use Rattle.cases.proofs.output.text.Goals as goal
 
 pub loop-i-init : goal.loop-i-init
@@ -23,3 +25,9 @@ loop-i-preserved g c =
       further (filled a.out.now a.at) (filled l.out l.n) _ a.s.now l.i c.loop-i-test.true l.invariant.2 c.in_ok-n.ensures.held,
       Tells.further _ _ _ (filled a.out.now a.at) (filled l.out l.n) _ a.s.now l.i c.loop-i-test.true l.invariant.3 c.in_ok-n.ensures.told,
     )
+
+pub returns-in_err-n-clause-room : goal.returns-in_err-n-clause-room
+returns-in_err-n-clause-room g c =
+    let a = c.args in
+    let l = c.loop-i in
+    λ h. absurd (false≢true (c.in_err-n.ensures.room (Rooms.byte (filled a.out.now a.at) (filled l.out l.n) a.s.now l.i c.loop-i-test.true l.invariant.2 h)))
