@@ -75,7 +75,7 @@ fn answer_whole<W: Write>(
     Ok(at)
 }
 
-// Goes through the input, and writes out what is left of the transcript.
+// Goes through the input, and writes out what is left of the transcript, at the input's end and where it can't be read.
 fn run<R: Read, W: Write>(
     source: &mut R,
     sink: &mut W,
@@ -90,7 +90,14 @@ fn run<R: Read, W: Write>(
     let mut place = lines::start();
     let mut at = 0;
     while 0 < place.turns {
-        place = lines::next(source, place, input, line)?;
+        let next = lines::next(source, place, input, line);
+        place = match next {
+            Ok(next) => next,
+            Err(e) => {
+                output::flush(sink, out, at)?;
+                return Err(e);
+            }
+        };
         at = answer_whole(place, line, bytes, store, firmware, pages, sink, out, at)?;
     }
     output::flush(sink, out, at)
