@@ -2,7 +2,8 @@
 // gathered in the line's buffer. A piece is the next bytes of the reader, as far as the reader's contract says which
 // those are; of standard input no contract does.
 ghost use Rattle.std.specs.Prelude.{◌≡◌, ◌+◌, ◌<◌, ◌≤◌, length, IfOk, OnErr, MatchResult};
-ghost use Rattle.std.specs.Io.KnownBytes.{Keeps};
+ghost use Rattle.std.specs.Io.KnownBytes.{Keeps, ReadConsumes};
+ghost use Rattle.std.specs.Io.{ReadsAtMost};
 ghost use Rattle.cases.specs.Output.{filled};
 ghost use Rattle.cases.specs.Lines.{outset, left_of, up_to, adds, kept_of, begun_of, Reads, passes, passed_of};
 
@@ -34,6 +35,14 @@ pub fn start() -> Place
         whole: false,
         turns: u64::MAX,
     }
+}
+
+// Reads the next piece and answers how many bytes it has: none at the end of the input.
+fn piece<R: Read>(source: &mut R, input: &mut [u8]) -> io::Result<usize>
+    ensures bound { ReadsAtMost result input.new }
+    ensures bytes { ReadConsumes (R.remaining source.old) (R.remaining source.new) result input.new }
+{
+    source.read(input)
 }
 
 // Where the next newline stands, or the piece's end if there is none.
@@ -130,7 +139,7 @@ fn filled<R: Read>(source: &mut R, place: Place, input: &mut [u8]) -> io::Result
     ensures piece { IfOk result (λ p. Reads (R.remaining source.old) (R.remaining source.new) place input.new p) }
     ensures unread { OnErr result (Keeps (R.remaining source.old) (R.remaining source.new)) }
 {
-    let got = source.read(input)?;
+    let got = piece(source, input)?;
     if got == 0 {
         return Ok(Place {
             from: 0,
