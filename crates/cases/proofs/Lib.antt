@@ -4,6 +4,9 @@ pub mod Pairs
 pub mod Hex
 pub mod Numbers
 pub mod Puts
+pub mod Begins
+pub mod Tells
+pub mod Rooms
 pub mod Spelled
 pub mod Texts
 pub mod Pieces

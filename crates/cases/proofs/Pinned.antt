@@ -1,107 +1,121 @@
--- Each public call is pinned down: two outcomes that its contract allows, at the same arguments, are equal. Assumes nothing.
+-- Each public call is pinned down: two outcomes that its contract allows, at the same arguments, are equal; of a call that writes, two that are both good. Assumes nothing.
 use Prim.Native.Nat.{ℕ}
 use mathlib.Core.Path.{◌≡◌, sym, ◌∙◌}
 use contract.Lifetimes.{Lfts}
-use borrow.Fn.Kinds.{Dens, ended_of}
 use borrow.Fn.World.{ResD}
 use denote.Triple.Clauses.{AtExit}
-use Rattle.ground.specs.Pins.{Pins}
+use borrow.Fn.Kinds.{ParamKind, ResultKind, Dens, ended_of}
+use denote.RattleType.{RattleType}
+use denote.Param.Laws.{Laws}
+use mir.Syntax.{Dict}
+use mathlib.Core.List.{List}
+use Rattle.std.proofs.Common.{Ok}
+use Rattle.std.specs.declared.result.Result.{Result}
+use Rattle.std.specs.declared.io.Error.{Error}
+use Rattle.std.specs.declared.io.traits.Write.{Ghosts}
+use Rattle.ground.specs.Pins.{Pins, Post}
 use Rattle.cases.specs.declared.lines.Place.{Place}
 use Rattle.cases.specs.declared.words.Amount.{Amount}
 use Rattle.cases.specs.declared.words.Bytes.{Bytes}
 use Rattle.cases.specs.declared.words.Found.{Found}
 use Rattle.cases.specs.Words.{taken, stored}
 use Rattle.cases.specs.Output.{filled}
-use Rattle.cases.proofs.words.digits.Kinds as digits-kinds
-use Rattle.cases.proofs.words.digits.Reads as digits-reads
-use Rattle.cases.proofs.words.number.Kinds as number-kinds
-use Rattle.cases.proofs.words.number.Reads as number-reads
-use Rattle.cases.proofs.words.hex.Kinds as hex-word-kinds
-use Rattle.cases.proofs.words.hex.Reads as hex-word-reads
-use Rattle.cases.proofs.words.last_hex.Kinds as last-hex-kinds
-use Rattle.cases.proofs.words.last_hex.Reads as last-hex-reads
-use Rattle.cases.proofs.words.past.Kinds as past-kinds
-use Rattle.cases.proofs.words.past.Reads as past-reads
-use Rattle.cases.proofs.words.numbers.Kinds as numbers-kinds
-use Rattle.cases.proofs.words.numbers.Reads as numbers-reads
+use Rattle.cases.proofs.words.digits.Kinds as digits_kinds
+use Rattle.cases.proofs.words.digits.Reads as digits_reads
+use Rattle.cases.proofs.words.number.Kinds as number_kinds
+use Rattle.cases.proofs.words.number.Reads as number_reads
+use Rattle.cases.proofs.words.hex.Kinds as hex_word_kinds
+use Rattle.cases.proofs.words.hex.Reads as hex_word_reads
+use Rattle.cases.proofs.words.last_hex.Kinds as last_hex_kinds
+use Rattle.cases.proofs.words.last_hex.Reads as last_hex_reads
+use Rattle.cases.proofs.words.past.Kinds as past_kinds
+use Rattle.cases.proofs.words.past.Reads as past_reads
+use Rattle.cases.proofs.words.numbers.Kinds as numbers_kinds
+use Rattle.cases.proofs.words.numbers.Reads as numbers_reads
 use Rattle.cases.specs.contracts.words.first as first_signature
-use Rattle.cases.proofs.words.first.Kinds as first-kinds
+use Rattle.cases.proofs.words.first.Kinds as first_kinds
 use Rattle.cases.proofs.words.first.Reads as first_reads
-use Rattle.cases.proofs.output.byte.Kinds as byte-kinds
-use Rattle.cases.proofs.output.byte.Reads as byte-Reads
-use Rattle.cases.proofs.output.text.Kinds as text-kinds
-use Rattle.cases.proofs.output.text.Reads as text-reads
-use Rattle.cases.proofs.output.value.Kinds as value-kinds
-use Rattle.cases.proofs.output.value.Reads as value-reads
-use Rattle.cases.proofs.output.values.Kinds as values-kinds
-use Rattle.cases.proofs.output.values.Reads as values-reads
-use Rattle.cases.proofs.output.pages.Kinds as pages-kinds
-use Rattle.cases.proofs.output.pages.Reads as pages-reads
-use Rattle.cases.proofs.output.refused.Kinds as refused-kinds
-use Rattle.cases.proofs.output.refused.Reads as refused-reads
-use Rattle.cases.proofs.output.said.Kinds as said-kinds
-use Rattle.cases.proofs.output.said.Reads as said-reads
-use Rattle.cases.proofs.output.hex.Kinds as hex-written-kinds
-use Rattle.cases.proofs.output.hex.Reads as hex-written-reads
-use Rattle.cases.proofs.output.line_end.Kinds as line-end-kinds
-use Rattle.cases.proofs.output.line_end.Reads as line-end-reads
-use Rattle.cases.proofs.output.bad_line.Kinds as bad-line-kinds
-use Rattle.cases.proofs.output.bad_line.Reads as bad-line-reads
-use Rattle.cases.proofs.lines.start.Kinds as start-kinds
-use Rattle.cases.proofs.lines.start.Reads as start-reads
+use Rattle.cases.proofs.output.byte.Kinds as byte_kinds
+use Rattle.cases.proofs.output.byte.Reads as byte_reads
+use Rattle.cases.proofs.output.text.Kinds as text_kinds
+use Rattle.cases.proofs.output.text.Reads as text_reads
+use Rattle.cases.proofs.output.value.Kinds as value_kinds
+use Rattle.cases.proofs.output.value.Reads as value_reads
+use Rattle.cases.proofs.output.values.Kinds as values_kinds
+use Rattle.cases.proofs.output.values.Reads as values_reads
+use Rattle.cases.proofs.output.pages.Kinds as pages_kinds
+use Rattle.cases.proofs.output.pages.Reads as pages_reads
+use Rattle.cases.proofs.output.refused.Kinds as refused_kinds
+use Rattle.cases.proofs.output.refused.Reads as refused_reads
+use Rattle.cases.proofs.output.said.Kinds as said_kinds
+use Rattle.cases.proofs.output.said.Reads as said_reads
+use Rattle.cases.proofs.output.hex.Kinds as hex_written_kinds
+use Rattle.cases.proofs.output.hex.Reads as hex_written_reads
+use Rattle.cases.proofs.output.line_end.Kinds as line_end_kinds
+use Rattle.cases.proofs.output.line_end.Reads as line_end_reads
+use Rattle.cases.proofs.output.bad_line.Kinds as bad_line_kinds
+use Rattle.cases.proofs.output.bad_line.Reads as bad_line_reads
+use Rattle.cases.proofs.lines.start.Kinds as start_kinds
+use Rattle.cases.proofs.lines.start.Reads as start_reads
 
-pub pinned_start : Pins start-kinds.ps start-kinds.r {R = Place} start-reads.Post (λ κs r s. r)
+pub pinned_start : Pins start_kinds.ps start_kinds.r {R = Place} start_reads.Post (λ κs r s. r)
 pinned_start κs a x y s t p q = p ∙ sym q
 
-pub pinned_digits : Pins digits-kinds.ps digits-kinds.r {R = Amount} digits-reads.Post (λ κs r s. r)
+pub pinned_digits : Pins digits_kinds.ps digits_kinds.r {R = Amount} digits_reads.Post (λ κs r s. r)
 pinned_digits κs a x y s t p q = p ∙ sym q
 
-pub pinned_number : Pins number-kinds.ps number-kinds.r {R = Amount} number-reads.Post (λ κs r s. r)
+pub pinned_number : Pins number_kinds.ps number_kinds.r {R = Amount} number_reads.Post (λ κs r s. r)
 pinned_number κs a x y s t p q = p ∙ sym q
 
-pub pinned_hex_word : Pins hex-word-kinds.ps hex-word-kinds.r {R = Bytes} hex-word-reads.Post (λ κs r s. taken r s.1.1.0.now)
+pub pinned_hex_word : Pins hex_word_kinds.ps hex_word_kinds.r {R = Bytes} hex_word_reads.Post (λ κs r s. taken r s.1.1.0.now)
 pinned_hex_word κs a x y s t p q = p ∙ sym q
 
-pub pinned_last_hex : Pins last-hex-kinds.ps last-hex-kinds.r {R = Bytes} last-hex-reads.Post (λ κs r s. taken r s.1.1.0.now)
+pub pinned_last_hex : Pins last_hex_kinds.ps last_hex_kinds.r {R = Bytes} last_hex_reads.Post (λ κs r s. taken r s.1.1.0.now)
 pinned_last_hex κs a x y s t p q = p ∙ sym q
 
-pub pinned_past : Pins past-kinds.ps past-kinds.r {R = Found} past-reads.Post (λ κs r s. r)
+pub pinned_past : Pins past_kinds.ps past_kinds.r {R = Found} past_reads.Post (λ κs r s. r)
 pinned_past κs a x y s t p q = p ∙ sym q
 
-pub pinned_numbers : Pins numbers-kinds.ps numbers-kinds.r {R = Found} numbers-reads.Post (λ κs r s. stored r s.1.1.1.0.now)
+pub pinned_numbers : Pins numbers_kinds.ps numbers_kinds.r {R = Found} numbers_reads.Post (λ κs r s. stored r s.1.1.1.0.now)
 pinned_numbers κs a x y s t p q = p ∙ sym q
 
 -- the first bytes: those of the part that is handed back
-pub pinned_first : (κs : Lfts 1) (a : Dens {n = 1} κs first-kinds.ps) (x y : ResD first_signature.signature κs) (s t : AtExit (ended_of 1 first-kinds.ps first-kinds.r) κs)
+pub pinned_first : (κs : Lfts 1) (a : Dens {n = 1} κs first_kinds.ps) (x y : ResD first_signature.signature κs) (s t : AtExit (ended_of 1 first_kinds.ps first_kinds.r) κs)
     → first_reads.Post κs a x s → first_reads.Post κs a y t → x.now ≡ y.now
 pinned_first κs a x y s t p q = p ∙ sym q
 
-pub pinned_byte : Pins byte-kinds.ps byte-kinds.r {R = ℕ} byte-Reads.Post (λ κs r s. filled s.0.now r)
-pinned_byte κs a x y s t p q = p ∙ sym q
+-- of a call that writes: two outcomes that are both good
+abbrev pub PinsOk : {n : ℕ} (ps : List (ParamKind n)) (r : ResultKind n) {V O E : Type 0} → Post ps r (Result V E) → ((κs : Lfts n) → V → AtExit (ended_of n ps r) κs → O) → Type 0
+PinsOk {n} ps r {V} {O} {E} post out =
+    (κs : Lfts n) (a : Dens {n = n} κs ps) (x y : V) (s t : AtExit (ended_of n ps r) κs) → post κs a (Ok x) s → post κs a (Ok y) t → out κs x s ≡ out κs y t
 
-pub pinned_text : Pins text-kinds.ps text-kinds.r {R = ℕ} text-reads.Post (λ κs r s. filled s.0.now r)
-pinned_text κs a x y s t p q = p ∙ sym q
+module _ (T : RattleType) (L : Laws T) (W : Ghosts T.Denot) (D : Dict) where
+  pub pinned_byte : PinsOk (byte_kinds.ps T L) (byte_kinds.r T L) {V = ℕ} {E = Error} (byte_reads.Post T L W D) (λ κs r s. filled s.1.0.now r)
+  pinned_byte κs a x y s t p q = (byte_reads.post-apart T L W D κs a (Ok x) s p).held ∙ sym (byte_reads.post-apart T L W D κs a (Ok y) t q).held
 
-pub pinned_value : Pins value-kinds.ps value-kinds.r {R = ℕ} value-reads.Post (λ κs r s. filled s.0.now r)
-pinned_value κs a x y s t p q = p ∙ sym q
+  pub pinned_text : PinsOk (text_kinds.ps T L) (text_kinds.r T L) {V = ℕ} {E = Error} (text_reads.Post T L W D) (λ κs r s. filled s.1.0.now r)
+  pinned_text κs a x y s t p q = (text_reads.post-apart T L W D κs a (Ok x) s p).held ∙ sym (text_reads.post-apart T L W D κs a (Ok y) t q).held
 
-pub pinned_values : Pins values-kinds.ps values-kinds.r {R = ℕ} values-reads.Post (λ κs r s. filled s.0.now r)
-pinned_values κs a x y s t p q = p ∙ sym q
+  pub pinned_value : PinsOk (value_kinds.ps T L) (value_kinds.r T L) {V = ℕ} {E = Error} (value_reads.Post T L W D) (λ κs r s. filled s.1.0.now r)
+  pinned_value κs a x y s t p q = (value_reads.post-apart T L W D κs a (Ok x) s p).held ∙ sym (value_reads.post-apart T L W D κs a (Ok y) t q).held
 
-pub pinned_pages : Pins pages-kinds.ps pages-kinds.r {R = ℕ} pages-reads.Post (λ κs r s. filled s.0.now r)
-pinned_pages κs a x y s t p q = p ∙ sym q
+  pub pinned_values : PinsOk (values_kinds.ps T L) (values_kinds.r T L) {V = ℕ} {E = Error} (values_reads.Post T L W D) (λ κs r s. filled s.1.0.now r)
+  pinned_values κs a x y s t p q = (values_reads.post-apart T L W D κs a (Ok x) s p).held ∙ sym (values_reads.post-apart T L W D κs a (Ok y) t q).held
 
-pub pinned_refused : Pins refused-kinds.ps refused-kinds.r {R = ℕ} refused-reads.Post (λ κs r s. filled s.0.now r)
-pinned_refused κs a x y s t p q = p ∙ sym q
+  pub pinned_pages : PinsOk (pages_kinds.ps T L) (pages_kinds.r T L) {V = ℕ} {E = Error} (pages_reads.Post T L W D) (λ κs r s. filled s.1.0.now r)
+  pinned_pages κs a x y s t p q = (pages_reads.post-apart T L W D κs a (Ok x) s p).held ∙ sym (pages_reads.post-apart T L W D κs a (Ok y) t q).held
 
-pub pinned_said : Pins said-kinds.ps said-kinds.r {R = ℕ} said-reads.Post (λ κs r s. filled s.0.now r)
-pinned_said κs a x y s t p q = p ∙ sym q
+  pub pinned_refused : PinsOk (refused_kinds.ps T L) (refused_kinds.r T L) {V = ℕ} {E = Error} (refused_reads.Post T L W D) (λ κs r s. filled s.1.0.now r)
+  pinned_refused κs a x y s t p q = (refused_reads.post-apart T L W D κs a (Ok x) s p).held ∙ sym (refused_reads.post-apart T L W D κs a (Ok y) t q).held
 
-pub pinned_hex_written : Pins hex-written-kinds.ps hex-written-kinds.r {R = ℕ} hex-written-reads.Post (λ κs r s. filled s.0.now r)
-pinned_hex_written κs a x y s t p q = p ∙ sym q
+  pub pinned_said : PinsOk (said_kinds.ps T L) (said_kinds.r T L) {V = ℕ} {E = Error} (said_reads.Post T L W D) (λ κs r s. filled s.1.0.now r)
+  pinned_said κs a x y s t p q = (said_reads.post-apart T L W D κs a (Ok x) s p).held ∙ sym (said_reads.post-apart T L W D κs a (Ok y) t q).held
 
-pub pinned_line_end : Pins line-end-kinds.ps line-end-kinds.r {R = ℕ} line-end-reads.Post (λ κs r s. filled s.0.now r)
-pinned_line_end κs a x y s t p q = p ∙ sym q
+  pub pinned_hex_written : PinsOk (hex_written_kinds.ps T L) (hex_written_kinds.r T L) {V = ℕ} {E = Error} (hex_written_reads.Post T L W D) (λ κs r s. filled s.1.0.now r)
+  pinned_hex_written κs a x y s t p q = (hex_written_reads.post-apart T L W D κs a (Ok x) s p).held ∙ sym (hex_written_reads.post-apart T L W D κs a (Ok y) t q).held
 
-pub pinned_bad_line : Pins bad-line-kinds.ps bad-line-kinds.r {R = ℕ} bad-line-reads.Post (λ κs r s. filled s.0.now r)
-pinned_bad_line κs a x y s t p q = p ∙ sym q
+  pub pinned_line_end : PinsOk (line_end_kinds.ps T L) (line_end_kinds.r T L) {V = ℕ} {E = Error} (line_end_reads.Post T L W D) (λ κs r s. filled s.1.0.now r)
+  pinned_line_end κs a x y s t p q = (line_end_reads.post-apart T L W D κs a (Ok x) s p).held ∙ sym (line_end_reads.post-apart T L W D κs a (Ok y) t q).held
+
+  pub pinned_bad_line : PinsOk (bad_line_kinds.ps T L) (bad_line_kinds.r T L) {V = ℕ} {E = Error} (bad_line_reads.Post T L W D) (λ κs r s. filled s.1.0.now r)
+  pinned_bad_line κs a x y s t p q = (bad_line_reads.post-apart T L W D κs a (Ok x) s p).held ∙ sym (bad_line_reads.post-apart T L W D κs a (Ok y) t q).held

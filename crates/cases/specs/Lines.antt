@@ -1,5 +1,7 @@
 -- What a turn through a piece of the input makes of the place and of the line.
-use Rattle.std.specs.Prelude.{ℕ, ◌+◌, ◌-◌, true, false, List, [], ◌∷◌, eqb, ltb, length, take, drop, set}
+use Rattle.std.specs.Prelude.{ℕ, ◌≡◌, ◌<◌, ◌≤◌, ◌+◌, ◌-◌, true, false, List, [], ◌∷◌, eqb, ltb, length, take, drop, set}
+use Rattle.std.specs.Io.KnownBytes.{Consumes, IsAtEnd}
+use Rattle.std.specs.declared.option.Option.{Option}
 use Rattle.ground.specs.Pick.{pick}
 use Rattle.cases.specs.Output.{Filled, filled}
 use Rattle.cases.specs.declared.lines.Place.{Place}
@@ -28,6 +30,21 @@ kept_of p = pick p.whole 0 p.len
 
 abbrev pub begun_of : Place → Place
 begun_of p = record { from = p.from; end = p.end; len = kept_of p; whole = false; turns = p.turns - 1 }
+
+-- a piece of so many bytes was read: none at the input's end, where the line is whole and no turn is left
+abbrev pub refilled_of : Place → ℕ → Place
+refilled_of p got =
+    pick (eqb got 0)
+    (record { from = 0; end = 0; len = p.len; whole = true; turns = 0 })
+    (record { from = 0; end = got; len = p.len; whole = false; turns = p.turns })
+
+-- the place after it; the piece is the next of the reader's bytes, where those are known, and empty only at their end
+abbrev pub Reads : Option (List ℕ) → Option (List ℕ) → Place → List ℕ → Place → Type 0
+Reads old new p input q =
+    (q ≡ refilled_of p q.end)
+    × (q.end ≤ length input)
+    × Consumes old new (take q.end input)
+    × (q.end ≡ 0 → 0 < length input → IsAtEnd new)
 
 -- a place, and the line's buffer
 pub record Passed : Type 0 where

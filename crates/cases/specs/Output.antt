@@ -1,5 +1,7 @@
 -- What stands in the transcript's buffer after a text was put behind its first bytes, and the text of each kind of word: docs/CASES.md.
-use Rattle.std.specs.Prelude.{ℕ, zero, suc, ◌+◌, ◌-◌, ◌/◌, ◌%◌, List, [], ◌∷◌, ◌++◌, eqb, ltb, length, take, set}
+use Rattle.std.specs.Prelude.{ℕ, zero, suc, ◌≡◌, ◌+◌, ◌-◌, ◌/◌, ◌%◌, ◌^◌, ◌<◌, ◌≤◌, List, [], ◌∷◌, ◌++◌, eqb, ltb, length, take, set}
+use Rattle.std.specs.Io.KnownBytes.{append_known, Appends}
+use Rattle.std.specs.declared.option.Option.{Option}
 use Rattle.ground.specs.Pick.{pick}
 use Rattle.ground.specs.Text.{codes}
 use Rattle.ground.specs.declared.Report.{Report}
@@ -24,6 +26,35 @@ put f b = pick (ltb f.held (length f.bytes)) (filled (set f.bytes f.held b) (f.h
 unfoldable pub puts : Filled → List ℕ → Filled
 puts f [] = f
 puts f (b ∷ bs) = puts (put f b) bs
+
+-- a buffer that has room for a text behind the bytes that it holds
+abbrev pub Takes : Filled → List ℕ → Type 0
+Takes f s = f.held + length s ≤ length f.bytes
+
+-- a text that was begun in a buffer: some of its first bytes were put
+abbrev pub Begun : Filled → List ℕ → List ℕ → Type 0
+Begun f s bytes = (k : ℕ) × (bytes ≡ (puts f (take k s)).bytes)
+
+-- the transcript so far, where it is known what the sink holds: that, and behind it what the buffer holds
+abbrev pub so_far : Option (List ℕ) → Filled → Option (List ℕ)
+so_far known f = append_known known (take f.held f.bytes)
+
+-- a buffer with room, which holds no more bytes than it has
+abbrev pub IsSound : Filled → Type 0
+IsSound f = (0 < length f.bytes) × (f.held ≤ length f.bytes)
+
+-- a text was told: it stands behind what the transcript was
+abbrev pub Told : Option (List ℕ) → Filled → Option (List ℕ) → Filled → List ℕ → Type 0
+Told old f new g s = IsSound f → IsSound g × Appends (so_far old f) (so_far new g) s
+
+-- the last k decimal digits of a number, the highest first
+abbrev pub last_digits : ℕ → ℕ → List ℕ
+last_digits zero x = []
+last_digits (suc k) x = last_digits k (x / 10) ++ ((48 + x % 10) ∷ [])
+
+-- a number has k decimal digits: one at least
+abbrev pub IsDigitCount : ℕ → ℕ → Type 0
+IsDigitCount x k = (1 ≤ k) × (x < 10 ^ k) × (1 < k → 10 ^ (k - 1) ≤ x)
 
 -- a number's decimal digits, with no leading zeros: so many at most
 unfoldable pub decimal_text : ℕ → ℕ → List ℕ

@@ -1,11 +1,14 @@
-// Lines out of standard input, which is read in pieces: a piece is gone through from newline to newline, and what is
-// passed is gathered in the line's buffer. What is read comes from outside: of that turn a contract says only that it is
-// counted.
-ghost use Rattle.std.specs.Prelude.{◌≡◌, ◌+◌, ◌<◌, ◌≤◌, length};
+// Lines out of an input, which is read in pieces: a piece is gone through from newline to newline, and what is passed is
+// gathered in the line's buffer. A piece is the next bytes of the reader, as far as the reader's contract says which
+// those are; of standard input no contract does.
+ghost use Rattle.std.specs.Prelude.{◌≡◌, ◌+◌, ◌<◌, ◌≤◌, length, IfOk, OnErr, MatchResult};
+ghost use Rattle.std.specs.Io.KnownBytes.{Keeps, ReadConsumes};
+ghost use Rattle.std.specs.Io.{ReadsAtMost};
 ghost use Rattle.cases.specs.Output.{filled};
-ghost use Rattle.cases.specs.Lines.{outset, left_of, up_to, adds, kept_of, begun_of, passes, passed_of};
+ghost use Rattle.cases.specs.Lines.{outset, left_of, up_to, adds, kept_of, begun_of, Reads, passes, passed_of};
 
-use libc::STDIN_FILENO;
+use std::io;
+use std::io::Read;
 
 // Where the program stands in its input.
 #[derive(Clone, Copy)]
@@ -35,9 +38,11 @@ pub fn start() -> Place
 }
 
 // Reads the next piece and answers how many bytes it has: none at the end of the input.
-fn piece(input: &mut [u8]) -> usize {
-    let got = libc::read(STDIN_FILENO, input);
-    io::count(got, input)
+fn piece<R: Read>(source: &mut R, input: &mut [u8]) -> io::Result<usize>
+    ensures bound { ReadsAtMost result input.new }
+    ensures bytes { ReadConsumes (R.remaining source.old) (R.remaining source.new) result input.new }
+{
+    source.read(input)
 }
 
 // Where the next newline stands, or the piece's end if there is none.
@@ -129,37 +134,50 @@ fn passed(place: Place, input: &[u8], line: &mut [u8]) -> Place
 }
 
 // Reads the next piece. At the input's end the line is whole, with no newline; it is empty if there was one.
-fn filled(place: Place, input: &mut [u8]) -> Place
-    ensures { result.turns ≤ place.turns }
+fn filled<R: Read>(source: &mut R, place: Place, input: &mut [u8]) -> io::Result<Place>
+    ensures turns { IfOk result (λ p. p.turns ≤ place.turns) }
+    ensures piece { IfOk result (λ p. Reads (R.remaining source.old) (R.remaining source.new) place input.new p) }
+    ensures unread { OnErr result (Keeps (R.remaining source.old) (R.remaining source.new)) }
 {
-    let got = piece(input);
+    let got = piece(source, input)?;
     if got == 0 {
-        return Place {
+        return Ok(Place {
             from: 0,
             end: 0,
             len: place.len,
             whole: true,
             turns: 0,
-        };
+        });
     }
-    Place {
+    Ok(Place {
         from: 0,
         end: got,
         len: place.len,
         whole: false,
         turns: place.turns,
-    }
+    })
 }
 
-// One turn: a part of the piece, or the next piece.
-pub fn next(place: Place, input: &mut [u8], line: &mut [u8]) -> Place
+// One turn: a part of the piece, or the next piece. Only the next piece can fail to be read, and then nothing is lost.
+pub fn next<R: Read>(
+    source: &mut R,
+    place: Place,
+    input: &mut [u8],
+    line: &mut [u8],
+) -> io::Result<Place>
     requires { 0 < place.turns }
-    ensures turns_lt_turns { result.turns < place.turns }
-    ensures line_after { place.from < place.end → passes result line.new ≡ passed_of (begun_of place) input.old line.old }
+    ensures turns_lt_turns { IfOk result (λ p. p.turns < place.turns) }
+    ensures line_after { place.from < place.end → MatchResult result
+        (λ p. passes p line.new ≡ passed_of (begun_of place) input.old line.old) (λ _. ⊥) }
+    ensures source_kept { place.from < place.end → source.new ≡ source.old }
+    ensures line_kept { place.end ≤ place.from → line.new ≡ line.old }
+    ensures piece { place.end ≤ place.from → IfOk result
+        (λ p. Reads (R.remaining source.old) (R.remaining source.new) (begun_of place) input.new p) }
+    ensures unread { OnErr result (Keeps (R.remaining source.old) (R.remaining source.new)) }
 {
     let now = begun(place);
     if now.from < now.end {
-        return passed(now, input, line);
+        return Ok(passed(now, input, line));
     }
-    filled(now, input)
+    filled(source, now, input)
 }

@@ -3,6 +3,8 @@ use crate::case;
 use crate::case::Case;
 use crate::told::Event;
 use machine::Phase;
+use std::io;
+use std::io::Write;
 use wire::Request;
 use work::Wait;
 
@@ -103,42 +105,44 @@ fn next(auto: Auto, firmware: &[u8], pages: &[u32], command: &mut [u8]) -> Auto 
 }
 
 // The same, with its line.
-fn next_line(
+fn next_line<W: Write>(
     auto: Auto,
     firmware: &[u8],
     pages: &[u32],
     command: &mut [u8],
+    sink: &mut W,
     out: &mut [u8],
-) -> Auto {
+) -> io::Result<Auto> {
     let now = next(auto, firmware, pages, command);
-    let case = case::write(now.case, firmware, command, out);
-    Auto {
+    let case = case::write(now.case, firmware, command, sink, out)?;
+    Ok(Auto {
         case,
         each: now.each,
         busy: now.busy,
         over: now.over,
-    }
+    })
 }
 
 // `aK`
-pub fn shown(
+pub fn shown<W: Write>(
     case: Case,
     each: u64,
     firmware: &[u8],
     pages: &[u32],
     command: &mut [u8],
+    sink: &mut W,
     out: &mut [u8],
-) -> Case {
+) -> io::Result<Case> {
     let mut auto = begun(case, each);
     let mut calls: u64 = 0;
     while calls < MOST_CALLS {
         if auto.over {
-            return auto.case;
+            return Ok(auto.case);
         }
-        auto = next_line(auto, firmware, pages, command, out);
+        auto = next_line(auto, firmware, pages, command, sink, out)?;
         calls += 1;
     }
-    auto.case
+    Ok(auto.case)
 }
 
 // The calls of `qK`, of which there is at least one.
@@ -156,20 +160,21 @@ fn run(auto: Auto, firmware: &[u8], pages: &[u32], command: &mut [u8]) -> Case {
 }
 
 // `qK`
-pub fn quiet(
+pub fn quiet<W: Write>(
     case: Case,
     each: u64,
     firmware: &[u8],
     pages: &[u32],
     command: &mut [u8],
+    sink: &mut W,
     out: &mut [u8],
-) -> Case {
+) -> io::Result<Case> {
     let auto = begun(case, each);
     if auto.over {
-        return case;
+        return Ok(case);
     }
     let case = run(auto, firmware, pages, command);
-    case::write(case, firmware, command, out)
+    case::write(case, firmware, command, sink, out)
 }
 
 // The count and the wait of a round, unless the count is answered by a finish or a refusal.
@@ -212,20 +217,21 @@ fn turns(case: Case, n: u64, firmware: &[u8], pages: &[u32], command: &mut [u8])
 }
 
 // `sN`
-pub fn rounds(
+pub fn rounds<W: Write>(
     case: Case,
     n: u64,
     firmware: &[u8],
     pages: &[u32],
     command: &mut [u8],
+    sink: &mut W,
     out: &mut [u8],
-) -> Case {
+) -> io::Result<Case> {
     if n == 0 {
-        return case;
+        return Ok(case);
     }
     let case = turns(case, n, firmware, pages, command);
     if case.is_answered() {
-        return case::write(case, firmware, command, out);
+        return case::write(case, firmware, command, sink, out);
     }
-    case
+    Ok(case)
 }

@@ -4,6 +4,8 @@ use crate::{row, transcript};
 use cases::words;
 use machine::Ask;
 use session::{Session, Step};
+use std::io;
+use std::io::Write;
 
 // How many bytes of the firmware, pages and command bytes a call lends.
 #[derive(Clone, Copy)]
@@ -193,7 +195,13 @@ pub fn tell(
 }
 
 // Writes the line of the last call, or of the start.
-pub fn write<'a>(case: Case, firmware: &'a [u8], command: &'a [u8], out: &mut [u8]) -> Case {
+pub fn write<'a, W: Write>(
+    case: Case,
+    firmware: &'a [u8],
+    command: &'a [u8],
+    sink: &mut W,
+    out: &mut [u8],
+) -> io::Result<Case> {
     let session = case.session;
     let says = case.says;
     let lent = case.lent;
@@ -203,6 +211,6 @@ pub fn write<'a>(case: Case, firmware: &'a [u8], command: &'a [u8], out: &mut [u
     };
     let firmware = words::first(firmware, lent.firmware);
     let command = words::first(command, lent.command);
-    let at = transcript::line(step, case.spent(), firmware, command, out, case.at);
-    case.placed(at)
+    let at = transcript::line(step, case.spent(), firmware, command, sink, out, case.at)?;
+    Ok(case.placed(at))
 }

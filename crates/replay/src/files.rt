@@ -1,31 +1,39 @@
 // The case of a whole file: it is read by its suffix, and answered.
 use cases::words::Bytes;
 use cases::{output, words};
+use std::io;
+use std::io::Write;
 use suffix::Suffix;
 
 // `suffix HEX`
-pub fn answer(line: &[u8], bytes: &mut [u8], out: &mut [u8], at: usize) -> usize {
+pub fn answer<W: Write>(
+    line: &[u8],
+    bytes: &mut [u8],
+    sink: &mut W,
+    out: &mut [u8],
+    at: usize,
+) -> io::Result<usize> {
     let read = words::last_hex(line, 7, bytes);
     match read {
-        Bytes::Bad => output::bad_line(out, at),
+        Bytes::Bad => output::bad_line(sink, out, at),
         Bytes::Read { len, end: _ } => {
-            let at = file_words(words::first(bytes, len), out, at);
-            output::line_end(out, at)
+            let at = file_words(words::first(bytes, len), sink, out, at)?;
+            output::line_end(sink, out, at)
         }
     }
 }
 
-fn file_words(file: &[u8], out: &mut [u8], at: usize) -> usize {
-    let at = output::text(out, at, b"suffix");
+fn file_words<W: Write>(file: &[u8], sink: &mut W, out: &mut [u8], at: usize) -> io::Result<usize> {
+    let at = output::text(sink, out, at, b"suffix")?;
     let read = Suffix::read(file);
-    let at = output::said(out, at, read.said());
+    let at = output::said(sink, out, at, read.said())?;
     let Suffix::Read {
         identities: _,
         crc: _,
     } = read
     else {
-        return at;
+        return Ok(at);
     };
     let firmware = Suffix::firmware(file);
-    output::value(out, at, firmware.len() as u64)
+    output::value(sink, out, at, firmware.len() as u64)
 }

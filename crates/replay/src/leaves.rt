@@ -7,51 +7,70 @@ use get_status::{GetStatusMessage, Reply};
 use ground::Version;
 use memory_layout::MemoryLayout;
 use protocol::{DfuProtocol, Interface, UsbWriteControl};
+use std::io;
+use std::io::Write;
 
 // `descriptor HEX`
-pub fn descriptor(line: &[u8], bytes: &mut [u8], out: &mut [u8], at: usize) -> usize {
+pub fn descriptor<W: Write>(
+    line: &[u8],
+    bytes: &mut [u8],
+    sink: &mut W,
+    out: &mut [u8],
+    at: usize,
+) -> io::Result<usize> {
     let read = words::last_hex(line, 11, bytes);
     match read {
-        Bytes::Bad => output::bad_line(out, at),
+        Bytes::Bad => output::bad_line(sink, out, at),
         Bytes::Read { len, end: _ } => {
             let d = FunctionalDescriptor::from_bytes(words::first(bytes, len));
-            let at = descriptor_words(d, out, at);
-            output::line_end(out, at)
+            let at = descriptor_words(d, sink, out, at)?;
+            output::line_end(sink, out, at)
         }
     }
 }
 
-fn descriptor_words(d: Descriptor, out: &mut [u8], at: usize) -> usize {
-    let at = output::text(out, at, b"descriptor");
+fn descriptor_words<W: Write>(
+    d: Descriptor,
+    sink: &mut W,
+    out: &mut [u8],
+    at: usize,
+) -> io::Result<usize> {
+    let at = output::text(sink, out, at, b"descriptor")?;
     match d {
-        Descriptor::NotOne => output::text(out, at, b" none"),
-        _ => output::said(out, at, d.said()),
+        Descriptor::NotOne => output::text(sink, out, at, b" none"),
+        _ => output::said(sink, out, at, d.said()),
     }
 }
 
 // `reply HEX`
-pub fn reply(line: &[u8], bytes: &mut [u8], out: &mut [u8], at: usize) -> usize {
+pub fn reply<W: Write>(
+    line: &[u8],
+    bytes: &mut [u8],
+    sink: &mut W,
+    out: &mut [u8],
+    at: usize,
+) -> io::Result<usize> {
     let read = words::last_hex(line, 6, bytes);
     match read {
-        Bytes::Bad => output::bad_line(out, at),
+        Bytes::Bad => output::bad_line(sink, out, at),
         Bytes::Read { len, end: _ } => {
             let r = GetStatusMessage::strict_from_bytes(words::first(bytes, len));
-            let at = reply_words(r, out, at);
-            output::line_end(out, at)
+            let at = reply_words(r, sink, out, at)?;
+            output::line_end(sink, out, at)
         }
     }
 }
 
-fn reply_words(r: Reply, out: &mut [u8], at: usize) -> usize {
-    let at = output::text(out, at, b"reply");
-    output::said(out, at, r.said())
+fn reply_words<W: Write>(r: Reply, sink: &mut W, out: &mut [u8], at: usize) -> io::Result<usize> {
+    let at = output::text(sink, out, at, b"reply")?;
+    output::said(sink, out, at, r.said())
 }
 
 // `detach`
-pub fn detach(out: &mut [u8], at: usize) -> usize {
-    let at = output::text(out, at, b"detach");
-    let at = output::values(out, at, &transfer(protocol::detach()));
-    output::line_end(out, at)
+pub fn detach<W: Write>(sink: &mut W, out: &mut [u8], at: usize) -> io::Result<usize> {
+    let at = output::text(sink, out, at, b"detach")?;
+    let at = output::values(sink, out, at, &transfer(protocol::detach()))?;
+    output::line_end(sink, out, at)
 }
 
 fn transfer(t: UsbWriteControl) -> [u64; 3] {
@@ -84,35 +103,57 @@ fn lending_at(line: &[u8], at: usize, bytes: &mut [u8]) -> Lending {
 }
 
 // Ends the answer to a call that was lent size numbers and filled n of them.
-fn settled(pages: &mut [u32], n: usize, size: usize, out: &mut [u8], at: usize) -> usize {
+fn settled<W: Write>(
+    pages: &mut [u32],
+    n: usize,
+    size: usize,
+    sink: &mut W,
+    out: &mut [u8],
+    at: usize,
+) -> io::Result<usize> {
     if store::settle(pages, n, size) {
-        return output::line_end(out, at);
+        return output::line_end(sink, out, at);
     }
-    output::text(out, at, b" store-changed\n")
+    output::text(sink, out, at, b" store-changed\n")
 }
 
 // `layout STORE HEX`
-pub fn layout(
+pub fn layout<W: Write>(
     line: &[u8],
     bytes: &mut [u8],
     pages: &mut [u32],
+    sink: &mut W,
     out: &mut [u8],
     at: usize,
-) -> usize {
+) -> io::Result<usize> {
     let read = lending_at(line, 7, bytes);
     match read {
-        Lending::Bad => output::bad_line(out, at),
-        Lending::Read { size, len } => layout_of(words::first(bytes, len), size, pages, out, at),
+        Lending::Bad => output::bad_line(sink, out, at),
+        Lending::Read { size, len } => layout_of(
+            words::first(bytes, len),
+            size,
+            pages,
+            sink,
+            out,
+            at,
+        ),
     }
 }
 
-fn layout_of(text: &[u8], size: usize, pages: &mut [u32], out: &mut [u8], at: usize) -> usize {
+fn layout_of<W: Write>(
+    text: &[u8],
+    size: usize,
+    pages: &mut [u32],
+    sink: &mut W,
+    out: &mut [u8],
+    at: usize,
+) -> io::Result<usize> {
     if pages.len() < size {
-        return output::bad_line(out, at);
+        return output::bad_line(sink, out, at);
     }
     let m = MemoryLayout::try_from(text, &mut pages[0..size]);
-    let at = layout_words(m, pages, out, at);
-    settled(pages, page_count(m), size, out, at)
+    let at = layout_words(m, pages, sink, out, at)?;
+    settled(pages, page_count(m), size, sink, out, at)
 }
 
 // How many pages a call has stored.
@@ -123,14 +164,20 @@ fn page_count(m: MemoryLayout) -> usize {
     }
 }
 
-fn layout_words(m: MemoryLayout, pages: &[u32], out: &mut [u8], at: usize) -> usize {
-    let at = output::text(out, at, b"layout");
+fn layout_words<W: Write>(
+    m: MemoryLayout,
+    pages: &[u32],
+    sink: &mut W,
+    out: &mut [u8],
+    at: usize,
+) -> io::Result<usize> {
+    let at = output::text(sink, out, at, b"layout")?;
     match m {
         MemoryLayout::Pages(n) => {
-            let at = output::text(out, at, b" ok");
-            output::pages(out, at, pages, n)
+            let at = output::text(sink, out, at, b" ok")?;
+            output::pages(sink, out, at, pages, n)
         }
-        MemoryLayout::Refused(e) => output::refused(out, at, e.said()),
+        MemoryLayout::Refused(e) => output::refused(sink, out, at, e.said()),
     }
 }
 
@@ -165,42 +212,52 @@ fn version_at(line: &[u8], at: usize) -> Versioned {
 }
 
 // `string MAJOR MINOR STORE HEX`
-pub fn string(
+pub fn string<W: Write>(
     line: &[u8],
     bytes: &mut [u8],
     pages: &mut [u32],
+    sink: &mut W,
     out: &mut [u8],
     at: usize,
-) -> usize {
+) -> io::Result<usize> {
     let read = version_at(line, 7);
     match read {
-        Versioned::Bad => output::bad_line(out, at),
+        Versioned::Bad => output::bad_line(sink, out, at),
         Versioned::Read { version, end } => {
             let rest = lending_at(line, end, bytes);
             match rest {
-                Lending::Bad => output::bad_line(out, at),
+                Lending::Bad => output::bad_line(sink, out, at),
                 Lending::Read { size, len } => {
-                    string_of(words::first(bytes, len), version, size, pages, out, at)
+                    string_of(
+                        words::first(bytes, len),
+                        version,
+                        size,
+                        pages,
+                        sink,
+                        out,
+                        at,
+                    )
                 }
             }
         }
     }
 }
 
-fn string_of(
+fn string_of<W: Write>(
     text: &[u8],
     version: Version,
     size: usize,
     pages: &mut [u32],
+    sink: &mut W,
     out: &mut [u8],
     at: usize,
-) -> usize {
+) -> io::Result<usize> {
     if pages.len() < size {
-        return output::bad_line(out, at);
+        return output::bad_line(sink, out, at);
     }
     let i = DfuProtocol::new(text, version, &mut pages[0..size]);
-    let at = string_words(i, pages, out, at);
-    settled(pages, filled(i), size, out, at)
+    let at = string_words(i, pages, sink, out, at)?;
+    settled(pages, filled(i), size, sink, out, at)
 }
 
 fn filled(i: Interface) -> usize {
@@ -210,19 +267,32 @@ fn filled(i: Interface) -> usize {
     }
 }
 
-fn string_words(i: Interface, store: &[u32], out: &mut [u8], at: usize) -> usize {
-    let at = output::text(out, at, b"string");
+fn string_words<W: Write>(
+    i: Interface,
+    store: &[u32],
+    sink: &mut W,
+    out: &mut [u8],
+    at: usize,
+) -> io::Result<usize> {
+    let at = output::text(sink, out, at, b"string")?;
     match i {
         Interface::Read { protocol, pages } => match protocol {
-            DfuProtocol::Dfu => output::text(out, at, b" plain"),
-            DfuProtocol::Dfuse { address } => dfuse(address as u64, store, pages, out, at),
+            DfuProtocol::Dfu => output::text(sink, out, at, b" plain"),
+            DfuProtocol::Dfuse { address } => dfuse(address as u64, store, pages, sink, out, at),
         },
-        Interface::Refused(e) => output::refused(out, at, e.said()),
+        Interface::Refused(e) => output::refused(sink, out, at, e.said()),
     }
 }
 
-fn dfuse(address: u64, store: &[u32], pages: usize, out: &mut [u8], at: usize) -> usize {
-    let at = output::text(out, at, b" dfuse");
-    let at = output::value(out, at, address);
-    output::pages(out, at, store, pages)
+fn dfuse<W: Write>(
+    address: u64,
+    store: &[u32],
+    pages: usize,
+    sink: &mut W,
+    out: &mut [u8],
+    at: usize,
+) -> io::Result<usize> {
+    let at = output::text(sink, out, at, b" dfuse")?;
+    let at = output::value(sink, out, at, address)?;
+    output::pages(sink, out, at, store, pages)
 }

@@ -7,6 +7,8 @@ use crate::{auto, case, row, starting, told, transcript};
 use cases::words::Found;
 use cases::{output, words};
 use start::{StartError, Started};
+use std::io;
+use std::io::Write;
 
 // The words before the pages.
 #[derive(Clone, Copy)]
@@ -57,54 +59,58 @@ fn plan_at(line: &[u8], at: usize) -> Planned {
 }
 
 // `session START : TOLD..`
-pub fn session(
+pub fn session<W: Write>(
     line: &[u8],
     bytes: &mut [u8],
     firmware: &[u8],
     pages: &mut [u32],
+    sink: &mut W,
     out: &mut [u8],
     at: usize,
-) -> usize {
+) -> io::Result<usize> {
     let read = plan_at(line, 8);
     match read {
-        Planned::Bad => output::bad_line(out, at),
+        Planned::Bad => output::bad_line(sink, out, at),
         Planned::Read { plan, end } => {
             let row = row::row_at(line, end, pages);
-            let at = with_row(line, plan, row, bytes, firmware, pages, out, at);
+            let at = with_row(line, plan, row, bytes, firmware, pages, sink, out, at)?;
             row::clear(pages, row.n);
-            at
+            Ok(at)
         }
     }
 }
 
 // The colon and the words after it are read before anything is run.
-fn with_row(
+fn with_row<W: Write>(
     line: &[u8],
     plan: Plan,
     row: Row,
     bytes: &mut [u8],
     firmware: &[u8],
     pages: &[u32],
+    sink: &mut W,
     out: &mut [u8],
     at: usize,
-) -> usize {
+) -> io::Result<usize> {
     if !row.good {
-        return output::bad_line(out, at);
+        return output::bad_line(sink, out, at);
     }
     let colon = words::past(line, row.end, b" :");
     match colon {
-        Found::Nothing => output::bad_line(out, at),
+        Found::Nothing => output::bad_line(sink, out, at),
         Found::At(end) => {
             if !told::are_words(line, end, bytes) {
-                return output::bad_line(out, at);
+                return output::bad_line(sink, out, at);
             }
-            with_words(line, end, plan, row.n, bytes, firmware, pages, out, at)
+            with_words(
+                line, end, plan, row.n, bytes, firmware, pages, sink, out, at,
+            )
         }
     }
 }
 
 // The start, and the words if it is not refused.
-fn with_words(
+fn with_words<W: Write>(
     line: &[u8],
     from: usize,
     plan: Plan,
@@ -112,9 +118,10 @@ fn with_words(
     bytes: &mut [u8],
     firmware: &[u8],
     pages: &[u32],
+    sink: &mut W,
     out: &mut [u8],
     at: usize,
-) -> usize {
+) -> io::Result<usize> {
     let usual = Lent {
         firmware: plan.length,
         pages: n,
@@ -122,10 +129,10 @@ fn with_words(
     };
     let started = start(plan, usual, firmware, pages);
     match started {
-        Started::Refused(e) => refused(e, plan.command, out, at),
+        Started::Refused(e) => refused(e, plan.command, sink, out, at),
         Started::Session(session) => {
             let case = case::begun(session, usual, plan.budget, at);
-            run(case, line, from, bytes, firmware, pages, out)
+            run(case, line, from, bytes, firmware, pages, sink, out)
         }
     }
 }
@@ -143,29 +150,36 @@ fn start(plan: Plan, usual: Lent, firmware: &[u8], pages: &[u32]) -> Started {
 }
 
 // The one line of a refused start.
-fn refused(e: StartError, command: usize, out: &mut [u8], at: usize) -> usize {
-    let at = output::text(out, at, b"session");
-    let at = output::refused(out, at, e.said());
+fn refused<W: Write>(
+    e: StartError,
+    command: usize,
+    sink: &mut W,
+    out: &mut [u8],
+    at: usize,
+) -> io::Result<usize> {
+    let at = output::text(sink, out, at, b"session")?;
+    let at = output::refused(sink, out, at, e.said())?;
     let bytes = [238u8; 16];
-    let at = transcript::line_end(0, words::first(&bytes, command), out, at);
-    output::line_end(out, at)
+    let at = transcript::line_end(0, words::first(&bytes, command), sink, out, at)?;
+    output::line_end(sink, out, at)
 }
 
 // The line of the start, and those of the words.
-fn run(
+fn run<W: Write>(
     case: Case,
     line: &[u8],
     at: usize,
     bytes: &mut [u8],
     firmware: &[u8],
     pages: &[u32],
+    sink: &mut W,
     out: &mut [u8],
-) -> usize {
+) -> io::Result<usize> {
     let mut command = [238u8; 16];
-    let case = case::write(case, firmware, &command, out);
+    let case = case::write(case, firmware, &command, sink, out)?;
     let walk = Walk { case, from: at };
-    let case = told_words(walk, line, bytes, firmware, pages, &mut command, out);
-    case.at
+    let case = told_words(walk, line, bytes, firmware, pages, &mut command, sink, out)?;
+    Ok(case.at)
 }
 
 // A case, and where the words start that it has not been told.
@@ -176,75 +190,79 @@ struct Walk {
 }
 
 // Goes through the words. Each has more than a byte, so that the turns are enough.
-fn told_words(
+fn told_words<W: Write>(
     walk: Walk,
     line: &[u8],
     bytes: &mut [u8],
     firmware: &[u8],
     pages: &[u32],
     command: &mut [u8],
+    sink: &mut W,
     out: &mut [u8],
-) -> Case {
+) -> io::Result<Case> {
     let mut walk = walk;
     let mut turn = 0;
     while turn < line.len() {
         turn += 1;
         if walk.from == line.len() {
-            return walk.case;
+            return Ok(walk.case);
         }
-        walk = told_word(walk, line, bytes, firmware, pages, command, out);
+        walk = told_word(walk, line, bytes, firmware, pages, command, sink, out)?;
     }
-    walk.case
+    Ok(walk.case)
 }
 
-fn told_word(
+fn told_word<W: Write>(
     walk: Walk,
     line: &[u8],
     bytes: &mut [u8],
     firmware: &[u8],
     pages: &[u32],
     command: &mut [u8],
+    sink: &mut W,
     out: &mut [u8],
-) -> Walk {
+) -> io::Result<Walk> {
     let told = told::next(line, walk.from, bytes);
     let word = told.word;
-    let case = obeyed(walk.case, word, bytes, firmware, pages, command, out);
-    Walk {
+    let case = obeyed(walk.case, word, bytes, firmware, pages, command, sink, out)?;
+    Ok(Walk {
         case,
         from: told.end,
-    }
+    })
 }
 
 // A call, and its line.
-fn called(
+fn called<W: Write>(
     case: Case,
     event: Event,
     bytes: &[u8],
     firmware: &[u8],
     pages: &[u32],
     command: &mut [u8],
+    sink: &mut W,
     out: &mut [u8],
-) -> Case {
+) -> io::Result<Case> {
     let case = case::tell(case, event, bytes, firmware, pages, command);
-    case::write(case, firmware, command, out)
+    case::write(case, firmware, command, sink, out)
 }
 
 // What a word does.
-fn obeyed(
+fn obeyed<W: Write>(
     case: Case,
     word: Word,
     bytes: &[u8],
     firmware: &[u8],
     pages: &[u32],
     command: &mut [u8],
+    sink: &mut W,
     out: &mut [u8],
-) -> Case {
+) -> io::Result<Case> {
     match word {
-        Word::Bad => case,
-        Word::Call(event) => called(case, event, bytes, firmware, pages, command, out),
-        Word::Lend(loan) => case.lending(loan),
-        Word::Auto(each) => auto::shown(case, each, firmware, pages, command, out),
-        Word::Quiet(each) => auto::quiet(case, each, firmware, pages, command, out),
-        Word::Rounds(n) => auto::rounds(case, n, firmware, pages, command, out),
+        Word::Bad => Ok(case),
+        Word::Call(event) => called(case, event, bytes, firmware, pages, command, sink, out),
+        Word::Lend(loan) => Ok(case.lending(loan)),
+        Word::Auto(each) => auto::shown(case, each, firmware, pages, command, sink, out),
+        Word::Quiet(each) => auto::quiet(case, each, firmware, pages, command, sink, out),
+        Word::Rounds(n) => auto::rounds(case, n, firmware, pages, command, sink, out),
     }
 }
