@@ -1,5 +1,5 @@
 -- What a turn through a piece of the input makes of the place and of the line.
-use Rattle.std.specs.Prelude.{ℕ, ◌≡◌, ◌<◌, ◌≤◌, ◌+◌, ◌-◌, true, false, List, [], ◌∷◌, eqb, ltb, length, take, drop, set}
+use Rattle.std.specs.Prelude.{ℕ, ◌≡◌, ◌<◌, ◌≤◌, ◌+◌, ◌-◌, true, false, List, [], ◌∷◌, length, take, drop, set, ◌==◌, nat_lt}
 use Rattle.std.specs.Io.KnownBytes.{Consumes, IsAtEnd}
 use Rattle.std.specs.declared.option.Option.{Option}
 use Rattle.ground.specs.Pick.{pick}
@@ -17,12 +17,12 @@ left_of input from end = take (end - from) (drop from input)
 -- the bytes before the first newline, or all
 unfoldable pub up_to : List ℕ → List ℕ
 up_to [] = []
-up_to (c ∷ cs) = pick (eqb c 10) [] (c ∷ up_to cs)
+up_to (c ∷ cs) = pick (c == 10) [] (c ∷ up_to cs)
 
 -- bytes behind those that a buffer holds, as far as they fit
 unfoldable pub adds : Filled → List ℕ → Filled
 adds f [] = f
-adds f (b ∷ bs) = pick (ltb f.held (length f.bytes)) (adds (filled (set f.bytes f.held b) (f.held + 1)) bs) f
+adds f (b ∷ bs) = pick (nat_lt f.held (length f.bytes)) (adds (filled (set f.bytes f.held b) (f.held + 1)) bs) f
 
 -- a turn begins: one less is left, and a whole line gives way to an empty one
 abbrev pub kept_of : Place → ℕ
@@ -34,7 +34,7 @@ begun_of p = record { from = p.from; end = p.end; len = kept_of p; whole = false
 -- a piece of so many bytes was read: none at the input's end, where the line is whole and no turn is left
 abbrev pub refilled_of : Place → ℕ → Place
 refilled_of p got =
-    pick (eqb got 0)
+    pick (got == 0)
     (record { from = 0; end = 0; len = p.len; whole = true; turns = 0 })
     (record { from = 0; end = got; len = p.len; whole = false; turns = p.turns })
 
@@ -58,7 +58,7 @@ passes p line = record { place = p; line = line }
 abbrev pub stopped : Place → ℕ → Filled → Passed
 stopped p stop f =
     passes
-    (pick (ltb stop p.end)
+    (pick (nat_lt stop p.end)
     (record { from = stop + 1; end = p.end; len = f.held; whole = true; turns = p.turns })
     (record { from = p.end; end = p.end; len = f.held; whole = false; turns = p.turns }))
     f.bytes

@@ -1,5 +1,5 @@
 -- What stands in the transcript's buffer after a text was put behind its first bytes, and the text of each kind of word: docs/CASES.md.
-use Rattle.std.specs.Prelude.{ℕ, zero, suc, ◌≡◌, ◌+◌, ◌-◌, ◌/◌, ◌%◌, ◌^◌, ◌<◌, ◌≤◌, List, [], ◌∷◌, ◌++◌, eqb, ltb, length, take, set}
+use Rattle.std.specs.Prelude.{ℕ, zero, suc, ◌≡◌, ◌+◌, ◌-◌, ◌/◌, ◌%◌, ◌^◌, ◌<◌, ◌≤◌, List, [], ◌∷◌, ◌++◌, length, take, set, ◌==◌, nat_lt}
 use Rattle.std.specs.Io.KnownBytes.{append_known, Appends}
 use Rattle.std.specs.declared.option.Option.{Option}
 use Rattle.ground.specs.Pick.{pick}
@@ -21,7 +21,7 @@ anew (x ∷ bs) b = filled (b ∷ bs) 1
 
 -- one byte more, and the bytes of a text
 unfoldable pub put : Filled → ℕ → Filled
-put f b = pick (ltb f.held (length f.bytes)) (filled (set f.bytes f.held b) (f.held + 1)) (anew f.bytes b)
+put f b = pick (nat_lt f.held (length f.bytes)) (filled (set f.bytes f.held b) (f.held + 1)) (anew f.bytes b)
 
 unfoldable pub puts : Filled → List ℕ → Filled
 puts f [] = f
@@ -59,7 +59,7 @@ IsDigitCount x k = (1 ≤ k) × (x < 10 ^ k) × (1 < k → 10 ^ (k - 1) ≤ x)
 -- a number's decimal digits, with no leading zeros: so many at most
 unfoldable pub decimal_text : ℕ → ℕ → List ℕ
 decimal_text zero x = []
-decimal_text (suc n) x = pick (ltb x 10) ((48 + x) ∷ []) (decimal_text n (x / 10) ++ ((48 + x % 10) ∷ []))
+decimal_text (suc n) x = pick (nat_lt x 10) ((48 + x) ∷ []) (decimal_text n (x / 10) ++ ((48 + x % 10) ∷ []))
 
 -- a text for each number of a list
 unfoldable pub joined : (ℕ → List ℕ) → List ℕ → List ℕ
@@ -87,11 +87,11 @@ refused_text r = codes " refused" ++ values_text (r.number ∷ counted_of r)
 
 -- the words of an answer: a refusal's, or the values alone
 abbrev pub said_text : Report → List ℕ
-said_text r = pick (eqb r.number 0) (values_text (counted_of r)) (refused_text r)
+said_text r = pick (r.number == 0) (values_text (counted_of r)) (refused_text r)
 
 -- the digit of a value below 16
 abbrev pub hex_digit : ℕ → ℕ
-hex_digit x = pick (ltb x 10) (48 + x) (pick (ltb x 16) (97 + (x - 10)) 63)
+hex_digit x = pick (nat_lt x 10) (48 + x) (pick (nat_lt x 16) (97 + (x - 10)) 63)
 
 -- a byte in two digits, several bytes, and a word that is HEX
 unfoldable pub pair_text : ℕ → List ℕ

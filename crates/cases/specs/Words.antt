@@ -1,5 +1,5 @@
 -- What the words of a line are: docs/CASES.md.
-use Rattle.std.specs.Prelude.{ℕ, ◌+◌, ◌-◌, ◌*◌, List, [], ◌∷◌, eqb, ltb, leb, length, drop, get_or}
+use Rattle.std.specs.Prelude.{ℕ, ◌+◌, ◌-◌, ◌*◌, List, [], ◌∷◌, length, drop, ◌==◌, nat_lt, nat_le, slice_index}
 use Rattle.ground.specs.Pick.{pick}
 use Rattle.ground.specs.Bytes.{prefix}
 use Rattle.cases.specs.declared.words.Amount.{Amount}
@@ -8,12 +8,12 @@ use Rattle.cases.specs.declared.words.Found.{Found}
 
 -- a byte's value as a digit: 0 to 9, a to f; 16 for no digit
 abbrev pub digit_of : ℕ → ℕ
-digit_of c = pick (ltb c 48) 16 (pick (leb c 57) (c - 48) (pick (ltb c 97) 16 (pick (leb c 102) (c - 97 + 10) 16)))
+digit_of c = pick (nat_lt c 48) 16 (pick (nat_le c 57) (c - 48) (pick (nat_lt c 97) 16 (pick (nat_le c 102) (c - 97 + 10) 16)))
 
 -- the decimal digits that a list begins with
 unfoldable pub digits_in : List ℕ → List ℕ
 digits_in [] = []
-digits_in (c ∷ cs) = pick (ltb 9 (digit_of c)) [] (c ∷ digits_in cs)
+digits_in (c ∷ cs) = pick (nat_lt 9 (digit_of c)) [] (c ∷ digits_in cs)
 
 -- the number that digits are, behind the digits of a number v
 unfoldable pub decimal : ℕ → List ℕ → ℕ
@@ -22,31 +22,31 @@ decimal v (c ∷ cs) = decimal (v * 10 + digit_of c) cs
 
 -- a number whose digits stand from a place to another: there is at least one
 abbrev pub amount_from : ℕ → ℕ → ℕ → Amount
-amount_from value at end = pick (eqb end at) Amount.Bad (Amount.Read value end)
+amount_from value at end = pick (end == at) Amount.Bad (Amount.Read value end)
 
 -- the digits at a place: a number up to the limit
 unfoldable pub digits_at : List ℕ → ℕ → ℕ → Amount
 digits_at line at limit =
-    pick (ltb limit (decimal 0 (digits_in (drop at line)))) Amount.Bad
+    pick (nat_lt limit (decimal 0 (digits_in (drop at line)))) Amount.Bad
     (amount_from (decimal 0 (digits_in (drop at line))) at (at + length (digits_in (drop at line))))
 
 -- with a space behind it: the next word starts there
 abbrev pub spaced : List ℕ → Amount → Amount
 spaced line Amount.Bad = Amount.Bad
-spaced line (Amount.Read value end) = pick (eqb (get_or line end 0) 32) (Amount.Read value (end + 1)) Amount.Bad
+spaced line (Amount.Read value end) = pick (slice_index line end == 32) (Amount.Read value (end + 1)) Amount.Bad
 
 unfoldable pub number_at : List ℕ → ℕ → ℕ → Amount
 number_at line at limit = spaced line (digits_at line at limit)
 
 -- the byte that two hex digits are; 256 if one of them is none
 abbrev pub pair_of : ℕ → ℕ → ℕ
-pair_of a b = pick (ltb 15 (digit_of a)) 256 (pick (ltb 15 (digit_of b)) 256 (digit_of a * 16 + digit_of b))
+pair_of a b = pick (nat_lt 15 (digit_of a)) 256 (pick (nat_lt 15 (digit_of b)) 256 (digit_of a * 16 + digit_of b))
 
 -- the bytes that the pairs of hex digits are that a list begins with
 unfoldable pub pairs_of : List ℕ → List ℕ
 pairs_of [] = []
 pairs_of (a ∷ []) = []
-pairs_of (a ∷ b ∷ cs) = pick (ltb 255 (pair_of a b)) [] (pair_of a b ∷ pairs_of cs)
+pairs_of (a ∷ b ∷ cs) = pick (nat_lt 255 (pair_of a b)) [] (pair_of a b ∷ pairs_of cs)
 
 -- a list over the first of a buffer, as far as it fits
 unfoldable pub over : List ℕ → List ℕ → List ℕ
@@ -64,30 +64,30 @@ taken r bs = record { answer = r; buffer = bs }
 
 -- so many bytes, whose pairs end at a place: there is at least one
 abbrev pub bytes_to : ℕ → ℕ → Bytes
-bytes_to len end = pick (eqb len 0) Bytes.Bad (Bytes.Read len end)
+bytes_to len end = pick (len == 0) Bytes.Bad (Bytes.Read len end)
 
 -- the pairs at a place: no more than the buffer has bytes
 unfoldable pub pairs_at : List ℕ → ℕ → List ℕ → Taken
 pairs_at line at bs =
     taken
-    (pick (ltb (length bs) (length (pairs_of (drop at line)))) Bytes.Bad (bytes_to (length (pairs_of (drop at line))) (at + 2 * length (pairs_of (drop at line)))))
+    (pick (nat_lt (length bs) (length (pairs_of (drop at line)))) Bytes.Bad (bytes_to (length (pairs_of (drop at line))) (at + 2 * length (pairs_of (drop at line)))))
     (over (pairs_of (drop at line)) bs)
 
 -- HEX: a hyphen for no bytes, or pairs
 unfoldable pub hex_at : List ℕ → ℕ → List ℕ → Taken
-hex_at line at bs = pick (eqb (get_or line at 0) 45) (taken (Bytes.Read 0 (at + 1)) bs) (pairs_at line at bs)
+hex_at line at bs = pick (slice_index line at == 45) (taken (Bytes.Read 0 (at + 1)) bs) (pairs_at line at bs)
 
 -- HEX to the line's end
 abbrev pub ending : List ℕ → Bytes → Bytes
 ending line Bytes.Bad = Bytes.Bad
-ending line (Bytes.Read len end) = pick (eqb end (length line)) (Bytes.Read len end) Bytes.Bad
+ending line (Bytes.Read len end) = pick (end == length line) (Bytes.Read len end) Bytes.Bad
 
 unfoldable pub last_hex_at : List ℕ → ℕ → List ℕ → Taken
 last_hex_at line at bs = taken (ending line (hex_at line at bs).answer) (hex_at line at bs).buffer
 
 -- a text at a place of the line: where it ends
 unfoldable pub past_at : List ℕ → ℕ → List ℕ → Found
-past_at line at text = pick (ltb (length line) at) Found.Nothing (pick (prefix text (drop at line)) (Found.At (at + length text)) Found.Nothing)
+past_at line at text = pick (nat_lt (length line) at) Found.Nothing (pick (prefix text (drop at line)) (Found.At (at + length text)) Found.Nothing)
 
 -- an answer, and the numbers that were lent for the values
 pub record Stored : Type 0 where
