@@ -25,7 +25,7 @@ fn show(rt: &impl Print, file: &[u8]) -> io::Result<()> {
     report::show(rt, read, checked.firmware, file.len())
 }
 
-fn with_space(rt: &(impl Env + Files + Print), space: &mut [u8]) -> io::Result<()> {
+fn with_space(rt: &(impl Env + Files + Print), space: &mut [u8; file::SPACE]) -> io::Result<()> {
     match file::read(rt, 1, space)? {
         File::Read(n) => show(rt, first(space, n)),
         File::Refused => Ok(()),
@@ -49,7 +49,6 @@ fn main(rt: HostRuntime) -> io::Result<()> {
         )?;
         return print::text(&rt, b"refused: there has to be one FILE\n");
     }
-    // The space is too large for the stack.
-    let mut space = vec![in rt.alloc(); 0; file::SPACE]?;
+    let mut space = [0u8; file::SPACE];
     with_space(&rt, &mut space)
 }

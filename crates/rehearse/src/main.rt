@@ -43,7 +43,7 @@ fn with_space(
     words: Words,
     protocol: DfuProtocol,
     pages: &[u32],
-    space: &mut [u8],
+    space: &mut [u8; file::SPACE],
 ) -> io::Result<()> {
     match file::read(rt, words.file, space)? {
         File::Read(n) => rehearsal::show(rt, words, protocol, first_bytes(space, n), pages),
@@ -51,23 +51,18 @@ fn with_space(
     }
 }
 
-// With the space for the firmware, which is too large for the stack.
 fn with_pages(
-    rt: &(impl AllocGlobal + Env + Files + Print),
+    rt: &(impl Env + Files + Print),
     words: Words,
     protocol: DfuProtocol,
     pages: &[u32],
 ) -> io::Result<()> {
-    let mut space = vec![in rt.alloc(); 0; file::SPACE]?;
+    let mut space = [0u8; file::SPACE];
     with_space(rt, words, protocol, pages, &mut space)
 }
 
 // Reads the interface string, whose pages go into the store.
-fn with_store(
-    rt: &(impl AllocGlobal + Env + Files + Print),
-    words: Words,
-    store: &mut [u32],
-) -> io::Result<()> {
+fn with_store(rt: &(impl Env + Files + Print), words: Words, store: &mut [u32]) -> io::Result<()> {
     match string::read(rt, words.string, words.plain, store)? {
         Interface::Read { protocol, pages } => {
             with_pages(rt, words, protocol, first_pages(store, pages))
