@@ -9,6 +9,7 @@ fields, types, constants), generated names and the library's names keep their sp
 import glob
 import os
 import re
+import subprocess
 import sys
 
 WORD = re.compile(r"[^\W\d][\w'\-]*|\d[\w'\-]*")
@@ -33,8 +34,8 @@ CHOSEN = {
     "dfuMANIFEST-WAIT-RESET": "dfu_manifest_wait_reset",
     "dfuUPLOAD-IDLE": "dfu_upload_idle",
 }
-# names of the library that own names are to keep clear of
-LIBRARY = "/opt/rattle/rattle"
+# the kit's library, whose names own names are to keep clear of
+LIBRARY = os.path.join(os.path.dirname(subprocess.run(["rt", "doc"], capture_output=True, text=True, check=True).stdout.strip()), "rattle")
 
 
 def antt():
