@@ -13,7 +13,6 @@ import subprocess
 import sys
 
 WORD = re.compile(r"[^\W\d][\w'\-]*|\d[\w'\-]*")
-DECLARED = re.compile(r"^(?:(?:unfoldable|abbrev|pub) )*(data|record)?\s*([^\s:({«]+)")
 HEAD = re.compile(r"^(?:(?:unfoldable|abbrev|pub) )*([^\s:({«]+)(?: \{[^}]*\})?\s*:(?!:)")
 # a lemma that would have a function's or another lemma's name
 SUFFIX = "_lem"
