@@ -8,7 +8,7 @@ use lib.Seq.{get_or-take}
 use Rattle.ground.specs.Text.{codes}
 use Rattle.ground.specs.declared.Report.{Report}
 use Rattle.std.specs.declared.option.Option.{Option}
-use Rattle.cases.specs.Output.{Filled, put, puts, Begun, Told, Takes, joined, value_text, pages_text, counted_of, refused_text, pair_text, hex_text}
+use Rattle.cases.specs.Output.{Filled, put, puts, Begun, Told, NeverFull, joined, value_text, pages_text, counted_of, refused_text, pair_text, hex_text}
 use Rattle.cases.proofs.Puts.{one, both, each, all}
 use Rattle.cases.proofs.Begins.{in_front, behind, next, amid}
 use Rattle.cases.proofs.Tells
@@ -122,7 +122,7 @@ pages_told a b c f g h pages n i k p q =
 
 -- the room for a page
 pub page_room : (f g h : Filled) (pages : List ℕ) (n i w : ℕ) → i < n → i < length pages → w ≡ get_or pages i 0 → g ≡ puts f (value_text n)
-    → h ≡ puts g (joined value_text (take i (take n pages))) → Takes f (pages_text pages n) → Takes h (value_text w)
+    → h ≡ puts g (joined value_text (take i (take n pages))) → NeverFull f (pages_text pages n) → NeverFull h (value_text w)
 unfolding pages_text joined
 page_room f g h pages n i w k l e p q t =
     Rooms.same h _ _ (ap value_text (get_or-take n pages i 0 k ∙ sym e))

@@ -27,9 +27,10 @@ unfoldable pub puts : Filled → List ℕ → Filled
 puts f [] = f
 puts f (b ∷ bs) = puts (put f b) bs
 
--- a buffer that has room for a text behind the bytes that it holds
-abbrev pub Takes : Filled → List ℕ → Type 0
-Takes f s = f.held + length s ≤ length f.bytes
+-- no byte of a text comes to a buffer that is just full, so none of it is written out
+abbrev pub NeverFull : Filled → List ℕ → Type 0
+NeverFull f [] = Unit
+NeverFull f (b ∷ s) = (f.held ≡ length f.bytes → ⊥) × NeverFull (put f b) s
 
 -- a text that was begun in a buffer: some of its first bytes were put
 abbrev pub Begun : Filled → List ℕ → List ℕ → Type 0

@@ -2,10 +2,10 @@
 // how many bytes it holds; each function answers how many it holds then, or the sink's error. The contracts settle the
 // buffer and the answer, and that no byte is lost: what the sink holds, where a sink's contract says so, and what the
 // buffer holds behind it grow by the text. After an error the buffer is as some of the text's first bytes left it.
-ghost use Rattle.std.specs.Prelude.{◌≡◌, [], ◌∷◌, ◌≤◌, length, take, IfOk, IsOk, OnOk, OnErr};
+ghost use Rattle.std.specs.Prelude.{◌≡◌, [], ◌∷◌, ◌<◌, ◌≤◌, length, take, IfOk, IsOk, OnOk, OnErr};
 ghost use Rattle.std.specs.Io.KnownBytes.{Appends};
 ghost use Rattle.ground.specs.Text.{codes};
-ghost use Rattle.cases.specs.Output.{filled, put, puts, Takes, Begun, Told, value_text, values_text, pages_text, counted_of, refused_text, said_text, hex_digit, pair_text, pairs_text, hex_text};
+ghost use Rattle.cases.specs.Output.{filled, put, puts, NeverFull, Begun, Told, value_text, values_text, pages_text, counted_of, refused_text, said_text, hex_digit, pair_text, pairs_text, hex_text};
 ghost use Rattle.cases.specs.Output.{last_digits, IsDigitCount, decimal_text};
 
 use ground::Report;
@@ -14,7 +14,8 @@ use std::io::Write;
 
 // Writes out what the buffer holds.
 pub fn flush<W: Write>(sink: &mut W, out: &[u8], at: usize) -> io::Result<()>
-    ensures { at ≤ length out.now → OnOk result (Appends (W.contents sink.old) (W.contents sink.new) (take at out.now)) }
+    ensures written { at ≤ length out.now → OnOk result (Appends (W.contents sink.old) (W.contents sink.new) (take at out.now)) }
+    ensures beyond { length out.now < at → IsOk result }
 {
     if at <= out.len() {
         sink.write_all(&out[0..at])?;
@@ -25,7 +26,7 @@ pub fn flush<W: Write>(sink: &mut W, out: &[u8], at: usize) -> io::Result<()>
 // One byte; a full buffer is written out first.
 pub fn byte<W: Write>(sink: &mut W, out: &mut [u8], at: usize, b: u8) -> io::Result<usize>
     ensures held { IfOk result (λ r. filled out.new r ≡ put (filled out.old at) b) }
-    ensures room { Takes (filled out.old at) (b ∷ []) → IsOk result }
+    ensures room { NeverFull (filled out.old at) (b ∷ []) → IsOk result }
     ensures told { IfOk result (λ r. Told (W.contents sink.old) (filled out.old at) (W.contents sink.new) (filled out.new r) (b ∷ [])) }
     ensures kept { OnErr result (out.new ≡ out.old) }
 {
@@ -44,7 +45,7 @@ pub fn byte<W: Write>(sink: &mut W, out: &mut [u8], at: usize, b: u8) -> io::Res
 // The bytes of a text.
 pub fn text<W: Write>(sink: &mut W, out: &mut [u8], at: usize, s: &[u8]) -> io::Result<usize>
     ensures held { IfOk result (λ r. filled out.new r ≡ puts (filled out.old at) s.now) }
-    ensures room { Takes (filled out.old at) s.now → IsOk result }
+    ensures room { NeverFull (filled out.old at) s.now → IsOk result }
     ensures told { IfOk result (λ r. Told (W.contents sink.old) (filled out.old at) (W.contents sink.new) (filled out.new r) s.now) }
     ensures begun { OnErr result (Begun (filled out.old at) s.now out.new) }
 {
@@ -98,7 +99,7 @@ fn decimal(x: u64, digits: &mut [u8; 20]) -> usize
 // A word that is a number: a space, and the decimal digits with no leading zeros.
 pub fn value<W: Write>(sink: &mut W, out: &mut [u8], at: usize, x: u64) -> io::Result<usize>
     ensures held { IfOk result (λ r. filled out.new r ≡ puts (filled out.old at) (value_text x)) }
-    ensures room { Takes (filled out.old at) (value_text x) → IsOk result }
+    ensures room { NeverFull (filled out.old at) (value_text x) → IsOk result }
     ensures told { IfOk result (λ r. Told (W.contents sink.old) (filled out.old at) (W.contents sink.new) (filled out.new r) (value_text x)) }
     ensures begun { OnErr result (Begun (filled out.old at) (value_text x) out.new) }
 {
@@ -111,7 +112,7 @@ pub fn value<W: Write>(sink: &mut W, out: &mut [u8], at: usize, x: u64) -> io::R
 // A word for each number.
 pub fn values<W: Write>(sink: &mut W, out: &mut [u8], at: usize, xs: &[u64]) -> io::Result<usize>
     ensures held { IfOk result (λ r. filled out.new r ≡ puts (filled out.old at) (values_text xs.now)) }
-    ensures room { Takes (filled out.old at) (values_text xs.now) → IsOk result }
+    ensures room { NeverFull (filled out.old at) (values_text xs.now) → IsOk result }
     ensures told { IfOk result (λ r. Told (W.contents sink.old) (filled out.old at) (W.contents sink.new) (filled out.new r) (values_text xs.now)) }
     ensures begun { OnErr result (Begun (filled out.old at) (values_text xs.now) out.new) }
 {
@@ -139,7 +140,7 @@ pub fn pages<W: Write>(
     n: usize,
 ) -> io::Result<usize>
     ensures held { IfOk result (λ r. filled out.new r ≡ puts (filled out.old at) (pages_text store.now n)) }
-    ensures room { Takes (filled out.old at) (pages_text store.now n) → IsOk result }
+    ensures room { NeverFull (filled out.old at) (pages_text store.now n) → IsOk result }
     ensures told { IfOk result (λ r. Told (W.contents sink.old) (filled out.old at) (W.contents sink.new) (filled out.new r) (pages_text store.now n)) }
     ensures begun { OnErr result (Begun (filled out.old at) (pages_text store.now n) out.new) }
 {
@@ -164,7 +165,7 @@ fn first<W: Write>(
     n: usize,
 ) -> io::Result<usize>
     ensures held { IfOk result (λ r. filled out.new r ≡ puts (filled out.old at) (values_text (take n xs.now))) }
-    ensures room { Takes (filled out.old at) (values_text (take n xs.now)) → IsOk result }
+    ensures room { NeverFull (filled out.old at) (values_text (take n xs.now)) → IsOk result }
     ensures told { IfOk result (λ r. Told (W.contents sink.old) (filled out.old at) (W.contents sink.new) (filled out.new r) (values_text (take n xs.now))) }
     ensures begun { OnErr result (Begun (filled out.old at) (values_text (take n xs.now)) out.new) }
 {
@@ -175,7 +176,7 @@ fn first<W: Write>(
 // The values of an answer.
 fn counted<W: Write>(sink: &mut W, out: &mut [u8], at: usize, said: Report) -> io::Result<usize>
     ensures held { IfOk result (λ r. filled out.new r ≡ puts (filled out.old at) (values_text (counted_of said))) }
-    ensures room { Takes (filled out.old at) (values_text (counted_of said)) → IsOk result }
+    ensures room { NeverFull (filled out.old at) (values_text (counted_of said)) → IsOk result }
     ensures told { IfOk result (λ r. Told (W.contents sink.old) (filled out.old at) (W.contents sink.new) (filled out.new r) (values_text (counted_of said))) }
     ensures begun { OnErr result (Begun (filled out.old at) (values_text (counted_of said)) out.new) }
 {
@@ -186,7 +187,7 @@ fn counted<W: Write>(sink: &mut W, out: &mut [u8], at: usize, said: Report) -> i
 // The words of a refusal.
 pub fn refused<W: Write>(sink: &mut W, out: &mut [u8], at: usize, said: Report) -> io::Result<usize>
     ensures held { IfOk result (λ r. filled out.new r ≡ puts (filled out.old at) (refused_text said)) }
-    ensures room { Takes (filled out.old at) (refused_text said) → IsOk result }
+    ensures room { NeverFull (filled out.old at) (refused_text said) → IsOk result }
     ensures told { IfOk result (λ r. Told (W.contents sink.old) (filled out.old at) (W.contents sink.new) (filled out.new r) (refused_text said)) }
     ensures begun { OnErr result (Begun (filled out.old at) (refused_text said) out.new) }
 {
@@ -198,7 +199,7 @@ pub fn refused<W: Write>(sink: &mut W, out: &mut [u8], at: usize, said: Report) 
 // The words of an answer: a refusal's, or the values alone.
 pub fn said<W: Write>(sink: &mut W, out: &mut [u8], at: usize, said: Report) -> io::Result<usize>
     ensures held { IfOk result (λ r. filled out.new r ≡ puts (filled out.old at) (said_text said)) }
-    ensures room { Takes (filled out.old at) (said_text said) → IsOk result }
+    ensures room { NeverFull (filled out.old at) (said_text said) → IsOk result }
     ensures told { IfOk result (λ r. Told (W.contents sink.old) (filled out.old at) (W.contents sink.new) (filled out.new r) (said_text said)) }
     ensures begun { OnErr result (Begun (filled out.old at) (said_text said) out.new) }
 {
@@ -224,7 +225,7 @@ fn hex_digit(x: u8) -> u8
 // The two digits of a byte.
 fn pair<W: Write>(sink: &mut W, out: &mut [u8], at: usize, b: u8) -> io::Result<usize>
     ensures held { IfOk result (λ r. filled out.new r ≡ puts (filled out.old at) (pair_text b)) }
-    ensures room { Takes (filled out.old at) (pair_text b) → IsOk result }
+    ensures room { NeverFull (filled out.old at) (pair_text b) → IsOk result }
     ensures told { IfOk result (λ r. Told (W.contents sink.old) (filled out.old at) (W.contents sink.new) (filled out.new r) (pair_text b)) }
     ensures begun { OnErr result (Begun (filled out.old at) (pair_text b) out.new) }
 {
@@ -235,7 +236,7 @@ fn pair<W: Write>(sink: &mut W, out: &mut [u8], at: usize, b: u8) -> io::Result<
 // The pairs of the bytes.
 fn pairs<W: Write>(sink: &mut W, out: &mut [u8], at: usize, bytes: &[u8]) -> io::Result<usize>
     ensures held { IfOk result (λ r. filled out.new r ≡ puts (filled out.old at) (pairs_text bytes.now)) }
-    ensures room { Takes (filled out.old at) (pairs_text bytes.now) → IsOk result }
+    ensures room { NeverFull (filled out.old at) (pairs_text bytes.now) → IsOk result }
     ensures told { IfOk result (λ r. Told (W.contents sink.old) (filled out.old at) (W.contents sink.new) (filled out.new r) (pairs_text bytes.now)) }
     ensures begun { OnErr result (Begun (filled out.old at) (pairs_text bytes.now) out.new) }
 {
@@ -251,7 +252,7 @@ fn pairs<W: Write>(sink: &mut W, out: &mut [u8], at: usize, bytes: &[u8]) -> io:
 // A word that is HEX: a space, and the pairs of the bytes, or a hyphen if there are none.
 pub fn hex<W: Write>(sink: &mut W, out: &mut [u8], at: usize, bytes: &[u8]) -> io::Result<usize>
     ensures held { IfOk result (λ r. filled out.new r ≡ puts (filled out.old at) (hex_text bytes.now)) }
-    ensures room { Takes (filled out.old at) (hex_text bytes.now) → IsOk result }
+    ensures room { NeverFull (filled out.old at) (hex_text bytes.now) → IsOk result }
     ensures told { IfOk result (λ r. Told (W.contents sink.old) (filled out.old at) (W.contents sink.new) (filled out.new r) (hex_text bytes.now)) }
     ensures begun { OnErr result (Begun (filled out.old at) (hex_text bytes.now) out.new) }
 {
@@ -265,7 +266,7 @@ pub fn hex<W: Write>(sink: &mut W, out: &mut [u8], at: usize, bytes: &[u8]) -> i
 // The newline after an answer.
 pub fn line_end<W: Write>(sink: &mut W, out: &mut [u8], at: usize) -> io::Result<usize>
     ensures held { IfOk result (λ r. filled out.new r ≡ puts (filled out.old at) (10 ∷ [])) }
-    ensures room { Takes (filled out.old at) (10 ∷ []) → IsOk result }
+    ensures room { NeverFull (filled out.old at) (10 ∷ []) → IsOk result }
     ensures told { IfOk result (λ r. Told (W.contents sink.old) (filled out.old at) (W.contents sink.new) (filled out.new r) (10 ∷ [])) }
     ensures kept { OnErr result (out.new ≡ out.old) }
 {
@@ -275,7 +276,7 @@ pub fn line_end<W: Write>(sink: &mut W, out: &mut [u8], at: usize) -> io::Result
 // The answer to a line that the grammar doesn't read.
 pub fn bad_line<W: Write>(sink: &mut W, out: &mut [u8], at: usize) -> io::Result<usize>
     ensures held { IfOk result (λ r. filled out.new r ≡ puts (filled out.old at) (codes "bad-line\n")) }
-    ensures room { Takes (filled out.old at) (codes "bad-line\n") → IsOk result }
+    ensures room { NeverFull (filled out.old at) (codes "bad-line\n") → IsOk result }
     ensures told { IfOk result (λ r. Told (W.contents sink.old) (filled out.old at) (W.contents sink.new) (filled out.new r) (codes "bad-line\n")) }
     ensures begun { OnErr result (Begun (filled out.old at) (codes "bad-line\n") out.new) }
 {

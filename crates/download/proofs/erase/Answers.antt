@@ -12,9 +12,6 @@ pub returns-then-pages-i : goal.returns-then-pages-i
 unfolding erase_next
 returns-then-pages-i c = simp (lt-ltb _ _ c.if-end-at.false, le-ltb _ _ c.if-pages-i.true)
 
--- LEFT cast-to : tie.Need-overflow-cast-to
--- cast-to c = omega (arith, c.shared-slice-known2.given c.before.before.before.before.before.before.before.args.progress.page)
-
 pub overflow_add-to : goal.overflow_add-to
 overflow_add-to c = omega (arith, c.type_inv.pages c.args.progress.page)
 

@@ -1,7 +1,7 @@
 -- `pair` meets its contract: two digits, one after the other.
 use Prim.Native.Nat.{ℕ, ◌/◌}
 use mathlib.Core.List.{[], ◌∷◌}
-use mathlib.Core.Path.{refl, ap, ◌∙◌}
+use mathlib.Core.Path.{refl, sym, ap, ap₂, ◌∙◌}
 use Rattle.std.proofs.lemmas.Result.{on_err_weaker}
 use Rattle.cases.specs.Output.{filled, pair_text, hex_digit}
 use Rattle.cases.proofs.Begins.{not_yet, one_of_two, holds, failed}
@@ -44,4 +44,5 @@ pub returns-clause-room : goal.returns-clause-room
 unfolding pair_text
 returns-clause-room g c =
     let a = c.args in
-    λ h. c.byte-2.ensures.room (Rooms.behind (filled a.out.now a.at) _ (c.hex_digit.result ∷ []) (c.hex_digit-2.result ∷ []) (c.in_ok-at.ensures.held ∙ one (filled a.out.now a.at) c.hex_digit.result) (omega (arith, h)))
+    λ h. c.byte-2.ensures.room (Rooms.behind (filled a.out.now a.at) _ (c.hex_digit.result ∷ []) (c.hex_digit-2.result ∷ []) (c.in_ok-at.ensures.held ∙ one (filled a.out.now a.at) c.hex_digit.result)
+    (Rooms.same (filled a.out.now a.at) _ _ (sym (ap₂ (λ (x y : ℕ). x ∷ y ∷ []) c.hex_digit.ensures c.hex_digit-2.ensures)) h))
