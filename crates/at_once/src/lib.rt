@@ -18,21 +18,20 @@ fn shown(session: Session, state: State, firmware: &[u8], pages: &[u32], command
 }
 
 // Tells a session what it awaits; an ended one repeats what it said.
+#[tactic(auto, using(plan::proofs::Unfilled::only_replies_fill))]
 pub fn told(session: Session, firmware: &[u8], pages: &[u32], command: &mut [u8]) -> Step
     ensures { out result command.new ≡ call_of firmware.now pages.now command.old session (ideal session.phase) }
 {
-    let phase = session.phase;
-    match phase {
-        Phase::First => shown(session, State::DfuIdle, firmware, pages, command),
+    match session.phase {
+        Phase::First | Phase::Second => shown(session, State::DfuIdle, firmware, pages, command),
+        Phase::Waiting(Wait::Poll { target, .. }) => {
+            shown(session, target, firmware, pages, command)
+        }
         Phase::Clear => session.told_count(0, firmware, pages, command),
-        Phase::Second => shown(session, State::DfuIdle, firmware, pages, command),
-        Phase::Sent(sent) => session.told_count(whole(sent) as u64, firmware, pages, command),
-        Phase::Waiting(wait) => match wait {
-            Wait::Pause { .. } => session.told_wait(firmware, pages, command),
-            Wait::Poll { target, .. } => shown(session, target, firmware, pages, command),
-        },
+        Phase::Sent(sent) => session.told_count(u64::from(whole(sent)), firmware, pages, command),
         Phase::Resetting => session.told_reset(firmware, pages, command),
-        Phase::Finished(_) => session.told_wait(firmware, pages, command),
-        Phase::Refused(_) => session.told_wait(firmware, pages, command),
+        Phase::Waiting(Wait::Pause { .. }) | Phase::Finished(_) | Phase::Refused(_) => {
+            session.told_wait(firmware, pages, command)
+        }
     }
 }

@@ -1,14 +1,14 @@
 -- Laws of `digits_at`: how the reader of decimal digits goes. Assumes nothing.
 use Prim.Native.Nat.{ℕ, ◌+◌, ◌*◌, ◌<◌, ◌≤◌}
-use mathlib.Core.Path.{◌≡◌, sym, ap, ◌∙◌}
+use mathlib.Core.Path.{◌≡◌, refl, sym, ap, ◌∙◌}
 use mathlib.Core.List.{List, [], ◌∷◌}
 use native.Mathlib.Numerals.{add-one}
 use native.Mathlib.Omega.{arith}
 use lib.ListN.{length, drop, get_or, drop_of_length-le}
 use lib.Seq.{drop-cons}
-use borrow.Author.Tests.{lt-ltb, le-ltb}
+use borrow.Author.Tests.{lt-ltb, le-ltb, eq-eqb}
 use Rattle.cases.specs.Words.{digit_of, digits_in, decimal, amount_from, digits_at}
-use Rattle.cases.specs.declared.words.Amount.{Amount}
+use Rattle.std.specs.Prelude.{None}
 
 -- where the digits end: at the line's end, or at a byte that is none
 pub at_end : (line : List ℕ) (i : ℕ) → length line ≤ i → digits_in (drop i line) ≡ []
@@ -24,6 +24,11 @@ pub at_digit : (line : List ℕ) (i d : ℕ) → i < length line → d ≡ digit
 unfolding digits_in
 at_digit line i d h e p = rw (add-one, drop-cons line i 0 h) (simp (le-ltb 9 (digit_of (get_or line i 0)) (omega arith)))
 
+-- no digits past the line's end
+pub nothing : (line : List ℕ) (at limit : ℕ) → length line < at → None ≡ digits_at line at limit
+unfolding digits_at decimal
+nothing line at limit h = simp (at_end line at (omega arith), le-ltb limit 0 (omega arith), eq-eqb (at + 0) at (omega arith))
+
 -- digits behind a number never make it smaller
 grows : (v : ℕ) (ds : List ℕ) → v ≤ decimal v ds
 unfolding decimal
@@ -37,6 +42,12 @@ So line at limit value i =
     × (value ≤ limit)
     × (decimal value (digits_in (drop i line)) ≡ decimal 0 (digits_in (drop at line)))
     × (i + length (digits_in (drop i line)) ≡ at + length (digits_in (drop at line)))
+
+pub moved : (line : List ℕ) (at limit value i j : ℕ) → i ≡ j → So line at limit value i → So line at limit value j
+moved line at limit value i j e s = rw (← e) s
+
+pub outset : (line : List ℕ) (at limit : ℕ) → So line at limit 0 (at + 0)
+outset line at limit = moved line at limit 0 at (at + 0) (omega arith) (omega arith, omega arith, refl, refl)
 
 module _ (line : List ℕ) (at limit value i : ℕ) (s : So line at limit value i) where
   pub done : digits_in (drop i line) ≡ [] → amount_from value at i ≡ digits_at line at limit
@@ -54,7 +65,7 @@ module _ (line : List ℕ) (at limit value i : ℕ) (s : So line at limit value 
         ∙ ap (decimal value) (sym (at_digit line i d h e p))
         ∙ s.2
 
-    pub too_large : limit < value * 10 + d → Amount.Bad ≡ digits_at line at limit
+    pub too_large : limit < value * 10 + d → None ≡ digits_at line at limit
     unfolding digits_at
     too_large q =
         let g = grows (value * 10 + d) (digits_in (drop (i + 1) line)) in

@@ -1,3 +1,4 @@
+pub mod Parts
 pub mod Digits
 pub mod Rows
 pub mod Pairs
@@ -6,6 +7,7 @@ pub mod Numbers
 pub mod Puts
 pub mod Begins
 pub mod Tells
+pub mod Writes
 pub mod Rooms
 pub mod Spelled
 pub mod Texts

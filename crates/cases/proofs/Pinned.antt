@@ -17,7 +17,7 @@ use Rattle.ground.specs.Pins.{Pins, Post}
 use Rattle.cases.specs.declared.lines.Place.{Place}
 use Rattle.cases.specs.declared.words.Amount.{Amount}
 use Rattle.cases.specs.declared.words.Bytes.{Bytes}
-use Rattle.cases.specs.declared.words.Found.{Found}
+use Rattle.std.specs.Prelude.{Option}
 use Rattle.cases.specs.Words.{taken, stored}
 use Rattle.cases.specs.Output.{filled}
 use Rattle.cases.proofs.words.digits.Kinds as digits_kinds
@@ -35,54 +35,54 @@ use Rattle.cases.proofs.words.numbers.Reads as numbers_reads
 use Rattle.cases.specs.contracts.words.first as first_signature
 use Rattle.cases.proofs.words.first.Kinds as first_kinds
 use Rattle.cases.proofs.words.first.Reads as first_reads
-use Rattle.cases.proofs.output.byte.Kinds as byte_kinds
-use Rattle.cases.proofs.output.byte.Reads as byte_reads
-use Rattle.cases.proofs.output.text.Kinds as text_kinds
-use Rattle.cases.proofs.output.text.Reads as text_reads
-use Rattle.cases.proofs.output.value.Kinds as value_kinds
-use Rattle.cases.proofs.output.value.Reads as value_reads
-use Rattle.cases.proofs.output.values.Kinds as values_kinds
-use Rattle.cases.proofs.output.values.Reads as values_reads
-use Rattle.cases.proofs.output.pages.Kinds as pages_kinds
-use Rattle.cases.proofs.output.pages.Reads as pages_reads
-use Rattle.cases.proofs.output.refused.Kinds as refused_kinds
-use Rattle.cases.proofs.output.refused.Reads as refused_reads
-use Rattle.cases.proofs.output.said.Kinds as said_kinds
-use Rattle.cases.proofs.output.said.Reads as said_reads
-use Rattle.cases.proofs.output.hex.Kinds as hex_written_kinds
-use Rattle.cases.proofs.output.hex.Reads as hex_written_reads
-use Rattle.cases.proofs.output.line_end.Kinds as line_end_kinds
-use Rattle.cases.proofs.output.line_end.Reads as line_end_reads
-use Rattle.cases.proofs.output.bad_line.Kinds as bad_line_kinds
-use Rattle.cases.proofs.output.bad_line.Reads as bad_line_reads
+use Rattle.cases.proofs.output.Transcript.byte.Kinds as byte_kinds
+use Rattle.cases.proofs.output.Transcript.byte.Reads as byte_reads
+use Rattle.cases.proofs.output.Transcript.text.Kinds as text_kinds
+use Rattle.cases.proofs.output.Transcript.text.Reads as text_reads
+use Rattle.cases.proofs.output.Transcript.value.Kinds as value_kinds
+use Rattle.cases.proofs.output.Transcript.value.Reads as value_reads
+use Rattle.cases.proofs.output.Transcript.values.Kinds as values_kinds
+use Rattle.cases.proofs.output.Transcript.values.Reads as values_reads
+use Rattle.cases.proofs.output.Transcript.pages.Kinds as pages_kinds
+use Rattle.cases.proofs.output.Transcript.pages.Reads as pages_reads
+use Rattle.cases.proofs.output.Transcript.refused.Kinds as refused_kinds
+use Rattle.cases.proofs.output.Transcript.refused.Reads as refused_reads
+use Rattle.cases.proofs.output.Transcript.said.Kinds as said_kinds
+use Rattle.cases.proofs.output.Transcript.said.Reads as said_reads
+use Rattle.cases.proofs.output.Transcript.hex.Kinds as hex_written_kinds
+use Rattle.cases.proofs.output.Transcript.hex.Reads as hex_written_reads
+use Rattle.cases.proofs.output.Transcript.line_end.Kinds as line_end_kinds
+use Rattle.cases.proofs.output.Transcript.line_end.Reads as line_end_reads
+use Rattle.cases.proofs.output.Transcript.bad_line.Kinds as bad_line_kinds
+use Rattle.cases.proofs.output.Transcript.bad_line.Reads as bad_line_reads
 use Rattle.cases.proofs.lines.start.Kinds as start_kinds
 use Rattle.cases.proofs.lines.start.Reads as start_reads
 
 pub pinned_start : Pins start_kinds.ps start_kinds.r {R = Place} start_reads.Post (λ κs r s. r)
 pinned_start κs a x y s t p q = p ∙ sym q
 
-pub pinned_digits : Pins digits_kinds.ps digits_kinds.r {R = Amount} digits_reads.Post (λ κs r s. r)
+pub pinned_digits : Pins digits_kinds.ps digits_kinds.r {R = Option Amount} digits_reads.Post (λ κs r s. r)
 pinned_digits κs a x y s t p q = p ∙ sym q
 
-pub pinned_number : Pins number_kinds.ps number_kinds.r {R = Amount} number_reads.Post (λ κs r s. r)
+pub pinned_number : Pins number_kinds.ps number_kinds.r {R = Option Amount} number_reads.Post (λ κs r s. r)
 pinned_number κs a x y s t p q = p ∙ sym q
 
-pub pinned_hex_word : Pins hex_word_kinds.ps hex_word_kinds.r {R = Bytes} hex_word_reads.Post (λ κs r s. taken r s.1.1.0.now)
+pub pinned_hex_word : Pins hex_word_kinds.ps hex_word_kinds.r {R = Option Bytes} hex_word_reads.Post (λ κs r s. taken r s.1.1.0.now)
 pinned_hex_word κs a x y s t p q = p ∙ sym q
 
-pub pinned_last_hex : Pins last_hex_kinds.ps last_hex_kinds.r {R = Bytes} last_hex_reads.Post (λ κs r s. taken r s.1.1.0.now)
+pub pinned_last_hex : Pins last_hex_kinds.ps last_hex_kinds.r {R = Option Bytes} last_hex_reads.Post (λ κs r s. taken r s.1.1.0.now)
 pinned_last_hex κs a x y s t p q = p ∙ sym q
 
-pub pinned_past : Pins past_kinds.ps past_kinds.r {R = Found} past_reads.Post (λ κs r s. r)
+pub pinned_past : Pins past_kinds.ps past_kinds.r {R = Option ℕ} past_reads.Post (λ κs r s. r)
 pinned_past κs a x y s t p q = p ∙ sym q
 
-pub pinned_numbers : Pins numbers_kinds.ps numbers_kinds.r {R = Found} numbers_reads.Post (λ κs r s. stored r s.1.1.1.0.now)
+pub pinned_numbers : Pins numbers_kinds.ps numbers_kinds.r {R = Option ℕ} numbers_reads.Post (λ κs r s. stored r s.1.1.1.0.now)
 pinned_numbers κs a x y s t p q = p ∙ sym q
 
 -- the first bytes: those of the part that is handed back
-pub pinned_first : (κs : Lfts 1) (a : Dens {n = 1} κs first_kinds.ps) (x y : ResD first_signature.signature κs) (s t : AtExit (ended_of 1 first_kinds.ps first_kinds.r) κs)
-    → first_reads.Post κs a x s → first_reads.Post κs a y t → x.now ≡ y.now
-pinned_first κs a x y s t p q = p ∙ sym q
+pub pinned_first : (T : RattleType) (L : Laws T) (κs : Lfts 2) (a : Dens {n = 2} κs (first_kinds.ps T L)) (x y : ResD (first_signature.signature T) κs)
+    (s t : AtExit (ended_of 2 (first_kinds.ps T L) (first_kinds.r T L)) κs) → first_reads.Post T L κs a x s → first_reads.Post T L κs a y t → x.now ≡ y.now
+pinned_first T L κs a x y s t p q = p ∙ sym q
 
 -- of a call that writes: two outcomes that are both good
 abbrev pub PinsOk : {n : ℕ} (ps : List (ParamKind n)) (r : ResultKind n) {V O E : Type 0} → Post ps r (Result V E) → ((κs : Lfts n) → V → AtExit (ended_of n ps r) κs → O) → Type 0
@@ -90,32 +90,32 @@ PinsOk {n} ps r {V} {O} {E} post out =
     (κs : Lfts n) (a : Dens {n = n} κs ps) (x y : V) (s t : AtExit (ended_of n ps r) κs) → post κs a (Ok x) s → post κs a (Ok y) t → out κs x s ≡ out κs y t
 
 module _ (T : RattleType) (L : Laws T) (W : Ghosts T.Denot) (D : Dict) where
-  pub pinned_byte : PinsOk (byte_kinds.ps T L) (byte_kinds.r T L) {V = ℕ} {E = Error} (byte_reads.Post T L W D) (λ κs r s. filled s.1.0.now r)
-  pinned_byte κs a x y s t p q = (byte_reads.post-apart T L W D κs a (Ok x) s p).held ∙ sym (byte_reads.post-apart T L W D κs a (Ok y) t q).held
+  pub pinned_byte : PinsOk (byte_kinds.ps T L) (byte_kinds.r T L) {V = Unit {0}} {E = Error} (byte_reads.Post T L W D) (λ κs r s. filled s.0.now.bytes.now s.0.now.held)
+  pinned_byte κs a x y s t p q = (byte_reads.post-apart T L W D κs a (Ok x) s p).told.held ∙ sym (byte_reads.post-apart T L W D κs a (Ok y) t q).told.held
 
-  pub pinned_text : PinsOk (text_kinds.ps T L) (text_kinds.r T L) {V = ℕ} {E = Error} (text_reads.Post T L W D) (λ κs r s. filled s.1.0.now r)
-  pinned_text κs a x y s t p q = (text_reads.post-apart T L W D κs a (Ok x) s p).held ∙ sym (text_reads.post-apart T L W D κs a (Ok y) t q).held
+  pub pinned_text : PinsOk (text_kinds.ps T L) (text_kinds.r T L) {V = Unit {0}} {E = Error} (text_reads.Post T L W D) (λ κs r s. filled s.0.now.bytes.now s.0.now.held)
+  pinned_text κs a x y s t p q = p.held ∙ sym q.held
 
-  pub pinned_value : PinsOk (value_kinds.ps T L) (value_kinds.r T L) {V = ℕ} {E = Error} (value_reads.Post T L W D) (λ κs r s. filled s.1.0.now r)
-  pinned_value κs a x y s t p q = (value_reads.post-apart T L W D κs a (Ok x) s p).held ∙ sym (value_reads.post-apart T L W D κs a (Ok y) t q).held
+  pub pinned_value : PinsOk (value_kinds.ps T L) (value_kinds.r T L) {V = Unit {0}} {E = Error} (value_reads.Post T L W D) (λ κs r s. filled s.0.now.bytes.now s.0.now.held)
+  pinned_value κs a x y s t p q = p.held ∙ sym q.held
 
-  pub pinned_values : PinsOk (values_kinds.ps T L) (values_kinds.r T L) {V = ℕ} {E = Error} (values_reads.Post T L W D) (λ κs r s. filled s.1.0.now r)
-  pinned_values κs a x y s t p q = (values_reads.post-apart T L W D κs a (Ok x) s p).held ∙ sym (values_reads.post-apart T L W D κs a (Ok y) t q).held
+  pub pinned_values : PinsOk (values_kinds.ps T L) (values_kinds.r T L) {V = Unit {0}} {E = Error} (values_reads.Post T L W D) (λ κs r s. filled s.0.now.bytes.now s.0.now.held)
+  pinned_values κs a x y s t p q = p.held ∙ sym q.held
 
-  pub pinned_pages : PinsOk (pages_kinds.ps T L) (pages_kinds.r T L) {V = ℕ} {E = Error} (pages_reads.Post T L W D) (λ κs r s. filled s.1.0.now r)
-  pinned_pages κs a x y s t p q = (pages_reads.post-apart T L W D κs a (Ok x) s p).held ∙ sym (pages_reads.post-apart T L W D κs a (Ok y) t q).held
+  pub pinned_pages : PinsOk (pages_kinds.ps T L) (pages_kinds.r T L) {V = Unit {0}} {E = Error} (pages_reads.Post T L W D) (λ κs r s. filled s.0.now.bytes.now s.0.now.held)
+  pinned_pages κs a x y s t p q = p.held ∙ sym q.held
 
-  pub pinned_refused : PinsOk (refused_kinds.ps T L) (refused_kinds.r T L) {V = ℕ} {E = Error} (refused_reads.Post T L W D) (λ κs r s. filled s.1.0.now r)
-  pinned_refused κs a x y s t p q = (refused_reads.post-apart T L W D κs a (Ok x) s p).held ∙ sym (refused_reads.post-apart T L W D κs a (Ok y) t q).held
+  pub pinned_refused : PinsOk (refused_kinds.ps T L) (refused_kinds.r T L) {V = Unit {0}} {E = Error} (refused_reads.Post T L W D) (λ κs r s. filled s.0.now.bytes.now s.0.now.held)
+  pinned_refused κs a x y s t p q = p.held ∙ sym q.held
 
-  pub pinned_said : PinsOk (said_kinds.ps T L) (said_kinds.r T L) {V = ℕ} {E = Error} (said_reads.Post T L W D) (λ κs r s. filled s.1.0.now r)
-  pinned_said κs a x y s t p q = (said_reads.post-apart T L W D κs a (Ok x) s p).held ∙ sym (said_reads.post-apart T L W D κs a (Ok y) t q).held
+  pub pinned_said : PinsOk (said_kinds.ps T L) (said_kinds.r T L) {V = Unit {0}} {E = Error} (said_reads.Post T L W D) (λ κs r s. filled s.0.now.bytes.now s.0.now.held)
+  pinned_said κs a x y s t p q = p.held ∙ sym q.held
 
-  pub pinned_hex_written : PinsOk (hex_written_kinds.ps T L) (hex_written_kinds.r T L) {V = ℕ} {E = Error} (hex_written_reads.Post T L W D) (λ κs r s. filled s.1.0.now r)
-  pinned_hex_written κs a x y s t p q = (hex_written_reads.post-apart T L W D κs a (Ok x) s p).held ∙ sym (hex_written_reads.post-apart T L W D κs a (Ok y) t q).held
+  pub pinned_hex_written : PinsOk (hex_written_kinds.ps T L) (hex_written_kinds.r T L) {V = Unit {0}} {E = Error} (hex_written_reads.Post T L W D) (λ κs r s. filled s.0.now.bytes.now s.0.now.held)
+  pinned_hex_written κs a x y s t p q = p.held ∙ sym q.held
 
-  pub pinned_line_end : PinsOk (line_end_kinds.ps T L) (line_end_kinds.r T L) {V = ℕ} {E = Error} (line_end_reads.Post T L W D) (λ κs r s. filled s.1.0.now r)
-  pinned_line_end κs a x y s t p q = (line_end_reads.post-apart T L W D κs a (Ok x) s p).held ∙ sym (line_end_reads.post-apart T L W D κs a (Ok y) t q).held
+  pub pinned_line_end : PinsOk (line_end_kinds.ps T L) (line_end_kinds.r T L) {V = Unit {0}} {E = Error} (line_end_reads.Post T L W D) (λ κs r s. filled s.0.now.bytes.now s.0.now.held)
+  pinned_line_end κs a x y s t p q = (line_end_reads.post-apart T L W D κs a (Ok x) s p).told.held ∙ sym (line_end_reads.post-apart T L W D κs a (Ok y) t q).told.held
 
-  pub pinned_bad_line : PinsOk (bad_line_kinds.ps T L) (bad_line_kinds.r T L) {V = ℕ} {E = Error} (bad_line_reads.Post T L W D) (λ κs r s. filled s.1.0.now r)
-  pinned_bad_line κs a x y s t p q = (bad_line_reads.post-apart T L W D κs a (Ok x) s p).held ∙ sym (bad_line_reads.post-apart T L W D κs a (Ok y) t q).held
+  pub pinned_bad_line : PinsOk (bad_line_kinds.ps T L) (bad_line_kinds.r T L) {V = Unit {0}} {E = Error} (bad_line_reads.Post T L W D) (λ κs r s. filled s.0.now.bytes.now s.0.now.held)
+  pinned_bad_line κs a x y s t p q = p.held ∙ sym q.held

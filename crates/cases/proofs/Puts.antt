@@ -30,15 +30,6 @@ unfolding puts
 both f [] t = refl
 both f (b ∷ s) t = both (put f b) s t
 
--- a byte of a text, and the text's end
-pub turn : (f : Filled) (s : List ℕ) (i : ℕ) → i < length s → puts f (drop i s) ≡ puts (put f (get_or s i 0)) (drop (i + 1) s)
-unfolding puts
-turn f s i h = rw (add-one, drop-cons s i 0 h)
-
-pub over : (f : Filled) (s : List ℕ) (i : ℕ) → length s ≤ i → puts f (drop i s) ≡ f
-unfolding puts
-over f s i h = rw (drop_of_length-le s h)
-
 pub one : (f : Filled) (b : ℕ) → put f b ≡ puts f (b ∷ [])
 unfolding puts
 one f b = refl

@@ -1,9 +1,9 @@
 -- What stands in the transcript's buffer after a text was put behind its first bytes, and the text of each kind of word: docs/CASES.md.
-use Rattle.std.specs.Prelude.{ℕ, zero, suc, ◌≡◌, ◌+◌, ◌-◌, ◌/◌, ◌%◌, ◌^◌, ◌<◌, ◌≤◌, List, [], ◌∷◌, ◌++◌, length, take, set, ◌==◌, nat_lt}
+use Rattle.std.specs.Prelude.{ℕ, zero, suc, ◌≡◌, ◌+◌, ◌-◌, ◌/◌, ◌%◌, ◌<◌, ◌≤◌, List, [], ◌∷◌, ◌++◌, length, take, set, ◌==◌, nat_lt, Result, IsOk, OnOk, OnErr}
 use Rattle.std.specs.Io.KnownBytes.{append_known, Appends}
 use Rattle.std.specs.declared.option.Option.{Option}
 use Rattle.ground.specs.Pick.{pick}
-use Rattle.ground.specs.Text.{codes}
+use Rattle.std.specs.Prelude.{codes}
 use Rattle.ground.specs.declared.Report.{Report}
 
 -- a buffer, and how many bytes it holds
@@ -32,9 +32,9 @@ abbrev pub NeverFull : Filled → List ℕ → Type 0
 NeverFull f [] = Unit
 NeverFull f (b ∷ s) = (f.held ≡ length f.bytes → ⊥) × NeverFull (put f b) s
 
--- a text that was begun in a buffer: some of its first bytes were put
-abbrev pub Begun : Filled → List ℕ → List ℕ → Type 0
-Begun f s bytes = (k : ℕ) × (bytes ≡ (puts f (take k s)).bytes)
+-- a text that was begun in a buffer: some of its first bytes were put, and no more
+abbrev pub Begun : Filled → List ℕ → Filled → Type 0
+Begun f s g = (k : ℕ) × (g ≡ puts f (take k s))
 
 -- the transcript so far, where it is known what the sink holds: that, and behind it what the buffer holds
 abbrev pub so_far : Option (List ℕ) → Filled → Option (List ℕ)
@@ -48,14 +48,13 @@ IsSound f = (0 < length f.bytes) × (f.held ≤ length f.bytes)
 abbrev pub Told : Option (List ℕ) → Filled → Option (List ℕ) → Filled → List ℕ → Type 0
 Told old f new g s = IsSound f → IsSound g × Appends (so_far old f) (so_far new g) s
 
--- the last k decimal digits of a number, the highest first
-abbrev pub last_digits : ℕ → ℕ → List ℕ
-last_digits zero x = []
-last_digits (suc k) x = last_digits k (x / 10) ++ ((48 + x % 10) ∷ [])
-
--- a number has k decimal digits: one at least
-abbrev pub IsDigitCount : ℕ → ℕ → Type 0
-IsDigitCount x k = (1 ≤ k) × (x < 10 ^ k) × (1 < k → 10 ^ (k - 1) ≤ x)
+-- what it comes to that a text is told: on Ok it was put and no byte was lost, and only where a byte comes to a full
+-- buffer can the sink fail; then some of the text's first bytes were put
+pub record Tells {E : Type 0} (old : Option (List ℕ)) (f : Filled) (new : Option (List ℕ)) (g : Filled) (s : List ℕ) (r : Result (Unit {0}) E) : Type 0 where
+  pub held : OnOk r (g ≡ puts f s)
+  pub room : NeverFull f s → IsOk r
+  pub whole : OnOk r (Told old f new g s)
+  pub begun : OnErr r (Begun f s g)
 
 -- a number's decimal digits, with no leading zeros: so many at most
 unfoldable pub decimal_text : ℕ → ℕ → List ℕ

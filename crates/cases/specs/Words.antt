@@ -1,10 +1,9 @@
 -- What the words of a line are: docs/CASES.md.
-use Rattle.std.specs.Prelude.{ℕ, ◌+◌, ◌-◌, ◌*◌, List, [], ◌∷◌, length, drop, ◌==◌, nat_lt, nat_le, slice_index}
+use Rattle.std.specs.Prelude.{ℕ, ◌+◌, ◌-◌, ◌*◌, List, [], ◌∷◌, length, drop, ◌==◌, nat_lt, nat_le, slice_index, Option, Some, None}
 use Rattle.ground.specs.Pick.{pick}
 use Rattle.ground.specs.Bytes.{prefix}
 use Rattle.cases.specs.declared.words.Amount.{Amount}
 use Rattle.cases.specs.declared.words.Bytes.{Bytes}
-use Rattle.cases.specs.declared.words.Found.{Found}
 
 -- a byte's value as a digit: 0 to 9, a to f; 16 for no digit
 abbrev pub digit_of : ℕ → ℕ
@@ -20,22 +19,25 @@ unfoldable pub decimal : ℕ → List ℕ → ℕ
 decimal v [] = v
 decimal v (c ∷ cs) = decimal (v * 10 + digit_of c) cs
 
+abbrev pub amount : ℕ → ℕ → Amount
+amount value end = record { value = value; end = end }
+
 -- a number whose digits stand from a place to another: there is at least one
-abbrev pub amount_from : ℕ → ℕ → ℕ → Amount
-amount_from value at end = pick (end == at) Amount.Bad (Amount.Read value end)
+abbrev pub amount_from : ℕ → ℕ → ℕ → Option Amount
+amount_from value at end = pick (end == at) None (Some (amount value end))
 
 -- the digits at a place: a number up to the limit
-unfoldable pub digits_at : List ℕ → ℕ → ℕ → Amount
+unfoldable pub digits_at : List ℕ → ℕ → ℕ → Option Amount
 digits_at line at limit =
-    pick (nat_lt limit (decimal 0 (digits_in (drop at line)))) Amount.Bad
+    pick (nat_lt limit (decimal 0 (digits_in (drop at line)))) None
     (amount_from (decimal 0 (digits_in (drop at line))) at (at + length (digits_in (drop at line))))
 
 -- with a space behind it: the next word starts there
-abbrev pub spaced : List ℕ → Amount → Amount
-spaced line Amount.Bad = Amount.Bad
-spaced line (Amount.Read value end) = pick (slice_index line end == 32) (Amount.Read value (end + 1)) Amount.Bad
+abbrev pub spaced : List ℕ → Option Amount → Option Amount
+spaced line None = None
+spaced line (Some a) = pick (slice_index line a.end == 32) (Some (amount a.value (a.end + 1))) None
 
-unfoldable pub number_at : List ℕ → ℕ → ℕ → Amount
+unfoldable pub number_at : List ℕ → ℕ → ℕ → Option Amount
 number_at line at limit = spaced line (digits_at line at limit)
 
 -- the byte that two hex digits are; 256 if one of them is none
@@ -56,56 +58,59 @@ over (x ∷ xs) (b ∷ bs) = x ∷ over xs bs
 
 -- an answer, and the buffer that was lent for the bytes
 pub record Taken : Type 0 where
-  pub answer : Bytes
+  pub answer : Option Bytes
   pub buffer : List ℕ
 
-abbrev pub taken : Bytes → List ℕ → Taken
+abbrev pub taken : Option Bytes → List ℕ → Taken
 taken r bs = record { answer = r; buffer = bs }
 
+abbrev pub hex_bytes : ℕ → ℕ → Bytes
+hex_bytes len end = record { len = len; end = end }
+
 -- so many bytes, whose pairs end at a place: there is at least one
-abbrev pub bytes_to : ℕ → ℕ → Bytes
-bytes_to len end = pick (len == 0) Bytes.Bad (Bytes.Read len end)
+abbrev pub bytes_to : ℕ → ℕ → Option Bytes
+bytes_to len end = pick (len == 0) None (Some (hex_bytes len end))
 
 -- the pairs at a place: no more than the buffer has bytes
 unfoldable pub pairs_at : List ℕ → ℕ → List ℕ → Taken
 pairs_at line at bs =
     taken
-    (pick (nat_lt (length bs) (length (pairs_of (drop at line)))) Bytes.Bad (bytes_to (length (pairs_of (drop at line))) (at + 2 * length (pairs_of (drop at line)))))
+    (pick (nat_lt (length bs) (length (pairs_of (drop at line)))) None (bytes_to (length (pairs_of (drop at line))) (at + 2 * length (pairs_of (drop at line)))))
     (over (pairs_of (drop at line)) bs)
 
 -- HEX: a hyphen for no bytes, or pairs
 unfoldable pub hex_at : List ℕ → ℕ → List ℕ → Taken
-hex_at line at bs = pick (slice_index line at == 45) (taken (Bytes.Read 0 (at + 1)) bs) (pairs_at line at bs)
+hex_at line at bs = pick (slice_index line at == 45) (taken (Some (hex_bytes 0 (at + 1))) bs) (pairs_at line at bs)
 
 -- HEX to the line's end
-abbrev pub ending : List ℕ → Bytes → Bytes
-ending line Bytes.Bad = Bytes.Bad
-ending line (Bytes.Read len end) = pick (end == length line) (Bytes.Read len end) Bytes.Bad
+abbrev pub ending : List ℕ → Option Bytes → Option Bytes
+ending line None = None
+ending line (Some b) = pick (b.end == length line) (Some b) None
 
 unfoldable pub last_hex_at : List ℕ → ℕ → List ℕ → Taken
 last_hex_at line at bs = taken (ending line (hex_at line at bs).answer) (hex_at line at bs).buffer
 
 -- a text at a place of the line: where it ends
-unfoldable pub past_at : List ℕ → ℕ → List ℕ → Found
-past_at line at text = pick (nat_lt (length line) at) Found.Nothing (pick (prefix text (drop at line)) (Found.At (at + length text)) Found.Nothing)
+unfoldable pub past_at : List ℕ → ℕ → List ℕ → Option ℕ
+past_at line at text = pick (nat_lt (length line) at) None (pick (prefix text (drop at line)) (Some (at + length text)) None)
 
 -- an answer, and the numbers that were lent for the values
 pub record Stored : Type 0 where
-  pub answer : Found
+  pub answer : Option ℕ
   pub values : List ℕ
 
-abbrev pub stored : Found → List ℕ → Stored
+abbrev pub stored : Option ℕ → List ℕ → Stored
 stored r vs = record { answer = r; values = vs }
 
 abbrev pub behind : ℕ → Stored → Stored
 behind v s = stored s.answer (v ∷ s.values)
 
-abbrev pub goes_on : Amount → List ℕ → (ℕ → ℕ → Stored) → Stored
-goes_on Amount.Bad vs rest = stored Found.Nothing vs
-goes_on (Amount.Read value end) vs rest = rest value end
+abbrev pub goes_on : Option Amount → List ℕ → (ℕ → ℕ → Stored) → Stored
+goes_on None vs rest = stored None vs
+goes_on (Some a) vs rest = rest a.value a.end
 
 -- numbers with a space behind each, a limit for each: the values up to the first that is bad
 unfoldable pub numbers_at : List ℕ → ℕ → List ℕ → List ℕ → Stored
-numbers_at line at [] vs = stored (Found.At at) vs
-numbers_at line at (m ∷ ms) [] = stored Found.Nothing []
+numbers_at line at [] vs = stored (Some at) vs
+numbers_at line at (m ∷ ms) [] = stored None []
 numbers_at line at (m ∷ ms) (v ∷ vs) = goes_on (number_at line at m) (v ∷ vs) (λ value end. behind value (numbers_at line end ms vs))

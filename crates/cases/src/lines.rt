@@ -1,7 +1,6 @@
-// Lines out of an input, which is read in pieces: a piece is gone through from newline to newline, and what is passed is
-// gathered in the line's buffer. A piece is the next bytes of the reader, as far as the reader's contract says which
-// those are; of standard input no contract does.
-ghost use Rattle.std.specs.Prelude.{◌≡◌, ◌+◌, ◌<◌, ◌≤◌, length, IfOk, OnErr, MatchResult};
+// Lines out of an input, which is read in pieces, the reader's next bytes as far as its contract says which those are (standard input's doesn't).
+// A piece is gone through from newline to newline, and what is passed is gathered in the line's buffer.
+ghost use Rattle.std.specs.Prelude.{◌≡◌, ◌+◌, ◌<◌, ◌≤◌, length, IfOk, OnErr, MatchResult, ◌==◌, position};
 ghost use Rattle.std.specs.Io.KnownBytes.{Keeps, ReadConsumes};
 ghost use Rattle.std.specs.Io.{ReadsAtMost};
 ghost use Rattle.cases.specs.Output.{filled};
@@ -11,12 +10,12 @@ use std::io;
 use std::io::Read;
 
 // Where the program stands in its input.
-#[derive(Clone, Copy)]
+#[derive(Clone, Copy, Debug, PartialEq, Eq)]
 pub struct Place {
     // What is left of the piece, from..end.
     pub from: usize,
     pub end: usize,
-    // How many bytes the line has so far, and whether that is the whole line.
+    // How many bytes the line has so far, and whether that is the whole line: the length counts either way, so an enum would have it twice.
     pub len: usize,
     pub whole: bool,
     // A proved loop has to end, and nothing says that the input does. So its turns are counted down, from a number that
@@ -45,21 +44,27 @@ fn piece<R: Read>(source: &mut R, input: &mut [u8]) -> io::Result<usize>
     source.read(input)
 }
 
-// Where the next newline stands, or the piece's end if there is none.
+// What is left of a piece, from..end, as far as the piece goes.
+fn left(input: &[u8], from: usize, end: usize) -> &[u8]
+    ensures { result.now ≡ left_of input.now from end }
+{
+    let rest = &input[from.min(input.len())..];
+    &rest[..end.saturating_sub(from).min(rest.len())]
+}
+
+// Where a newline stands.
+fn newline_in(s: &[u8]) -> Option<usize>
+    ensures { result ≡ position (λ b. b == 10) s.now }
+{
+    s.iter().position(|b| *b == b'\n')
+}
+
+// Where the next newline of the piece stands, or the piece's end if there is none.
 fn newline(input: &[u8], from: usize, end: usize) -> usize
     ensures { result ≡ from + length (up_to (left_of input.now from end)) }
 {
-    let mut i = from;
-    while i < end {
-        if input.len() <= i {
-            return i;
-        }
-        if input[i] == b'\n' {
-            return i;
-        }
-        i += 1;
-    }
-    i
+    let left = left(input, from, end);
+    from + newline_in(left).unwrap_or(left.len())
 }
 
 // Puts the bytes from..to of the piece behind the first len of the line, as far as they fit, and answers how many the
@@ -67,30 +72,19 @@ fn newline(input: &[u8], from: usize, end: usize) -> usize
 fn gather(input: &[u8], from: usize, to: usize, line: &mut [u8], len: usize) -> usize
     ensures { filled line.new result ≡ adds (filled line.old len) (left_of input.now from to) }
 {
-    let mut i = from;
-    let mut n = len;
-    while i < to {
-        if input.len() <= i {
-            return n;
-        }
-        if line.len() <= n {
-            return n;
-        }
-        line[n] = input[i];
-        i += 1;
-        n += 1;
+    let left = left(input, from, to);
+    let n = left.len().min(line.len().saturating_sub(len));
+    if 0 < n {
+        line[len..len + n].copy_from_slice(&left[..n]);
     }
-    n
+    len + n
 }
 
 // How many bytes the line has before a turn: none after a whole one.
 fn kept(place: Place) -> usize
     ensures { result ≡ kept_of place }
 {
-    if place.whole {
-        return 0;
-    }
-    place.len
+    if place.whole { 0 } else { place.len }
 }
 
 // A place with one turn less, and with an empty line after a whole one.
@@ -99,11 +93,10 @@ fn begun(place: Place) -> Place
     ensures { result ≡ begun_of place }
 {
     Place {
-        from: place.from,
-        end: place.end,
         len: kept(place),
         whole: false,
         turns: place.turns - 1,
+        ..place
     }
 }
 
@@ -111,25 +104,22 @@ fn begun(place: Place) -> Place
 fn passed(place: Place, input: &[u8], line: &mut [u8]) -> Place
     ensures { passes result line.new ≡ passed_of place input.now line.old }
 {
-    let from = place.from;
-    let end = place.end;
+    let Place { from, end, .. } = place;
     let stop = newline(input, from, end);
     let len = gather(input, from, stop, line, place.len);
     if stop < end {
         return Place {
             from: stop + 1,
-            end,
             len,
             whole: true,
-            turns: place.turns,
+            ..place
         };
     }
     Place {
         from: end,
-        end,
         len,
         whole: false,
-        turns: place.turns,
+        ..place
     }
 }
 
@@ -144,17 +134,16 @@ fn filled<R: Read>(source: &mut R, place: Place, input: &mut [u8]) -> io::Result
         return Ok(Place {
             from: 0,
             end: 0,
-            len: place.len,
             whole: true,
             turns: 0,
+            ..place
         });
     }
     Ok(Place {
         from: 0,
         end: got,
-        len: place.len,
         whole: false,
-        turns: place.turns,
+        ..place
     })
 }
 

@@ -1,12 +1,8 @@
 -- One byte changed is always seen: the register forgets nothing, so two registers that differ stay different. Assumes nothing.
-use Prim.Native.Nat.{ℕ, zero, suc, ◌*◌, ◌/◌, ◌%◌, ◌^◌, ◌<◌}
-use mathlib.Core.Path.{◌≡◌, refl, sym, ap, ◌∙◌, subst}
-use mathlib.Core.List.{List, [], ◌∷◌, ◌++◌}
-use native.Mathlib.Omega.{arith}
-use lib.Bits.{bit_xor, xor_self, xor_zero_l, xor_zero_r, xor_comm, xor_lt}
+use Rattle.std.proofs.Common.{◌≡◌, ℕ, zero, suc, ◌*◌, ◌/◌, ◌%◌, ◌^◌, ◌<◌, List, [], ◌∷◌, ◌++◌, refl, sym, ap, ◌∙◌, subst, arith}
+use lib.Bits.{bit_xor, xor_self, xor_zero_l, xor_zero_r, xor_comm, xor_lt, xor_assoc}
 use Rattle.ground.specs.Bytes.{Bytes}
 use Rattle.papers.specs.Crc.{polynomial, shifted, eight, crc}
-use Rattle.crc32.proofs.Xor.{xor_assoc, digit}
 use Rattle.crc32.proofs.Linear.{shifted_is, shifted_xor}
 use Rattle.crc32.proofs.Bytewise.{crc_append}
 
@@ -26,7 +22,7 @@ cancel a x y e = taken x ∙ ap (bit_xor a) e ∙ sym (taken y)
 
 -- a bit: it stays in 32 bits, and only 0 becomes 0
 pub shifted_lt : (c : ℕ) → c < 2 ^ 32 → shifted c < 2 ^ 32
-shifted_lt c h = subst (λ (n : ℕ). n < 2 ^ 32) (sym (shifted_is c)) (xor_lt 32 (c % 2 * polynomial) (c / 2) (omega (arith, digit c)) (omega arith))
+shifted_lt c h = subst (λ (n : ℕ). n < 2 ^ 32) (sym (shifted_is c)) (xor_lt 32 (c % 2 * polynomial) (c / 2) (omega arith) (omega arith))
 
 emptied : (d h : ℕ) → d < 2 → h < 2 ^ 31 → bit_xor (d * polynomial) h ≡ 0 → (d ≡ 0) × (h ≡ 0)
 emptied zero h k l e = (refl, e)
@@ -34,7 +30,7 @@ emptied (suc zero) h k l e = absurd (let s = same polynomial h e in omega arith)
 emptied (suc (suc d)) h k l e = absurd (omega arith)
 
 shifted_zero : (c : ℕ) → c < 2 ^ 32 → shifted c ≡ 0 → c ≡ 0
-shifted_zero c h e = let z = emptied (c % 2) (c / 2) (digit c) (omega arith) (sym (shifted_is c) ∙ e) in omega (arith, z.0, z.1)
+shifted_zero c h e = let z = emptied (c % 2) (c / 2) (omega arith) (omega arith) (sym (shifted_is c) ∙ e) in omega (arith, z.0, z.1)
 
 shifted_one : (x y : ℕ) → x < 2 ^ 32 → y < 2 ^ 32 → shifted x ≡ shifted y → x ≡ y
 shifted_one x y h k e =

@@ -1,4 +1,3 @@
-pub mod Xor
 pub mod Linear
 pub mod Rule
 pub mod Bytewise

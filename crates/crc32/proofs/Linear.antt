@@ -1,17 +1,13 @@
 -- The register's bits go through on their own: what a sum becomes is the sum of what its parts become. The table rests on it. Assumes nothing.
-use Prim.Native.Nat.{ℕ, zero, suc, ◌*◌, ◌/◌, ◌%◌, ◌<◌}
-use mathlib.Core.Path.{◌≡◌, refl, sym, ap, ap₂, ◌∙◌}
-use native.Mathlib.Nat.{mod-lt, zero-lt-suc, mul-div_cancel, mul-mod_left, div-add-mod', div-eq_of_lt}
-use native.Mathlib.Omega.{arith}
-use lib.Bits.{bit_xor, differ, xor_zero_r, xor_shifted, xor_shr, xor_comm}
-use lib.Dec.{eqb}
+use Rattle.std.proofs.Common.{◌≡◌, ℕ, zero, suc, ◌*◌, ◌/◌, ◌%◌, ◌<◌, ◌==◌, refl, sym, ap, ap₂, ◌∙◌, arith, mod-lt}
+use lib.Bits.{bit_xor, xor_zero_r, xor_shifted, xor_shr, xor_mod, xor_comm, xor_assoc}
 use lib.Pow.{pow_pos}
+use native.Mathlib.Nat.{mul-div_cancel, mul-mod_left, div-add-mod', div-eq_of_lt, zero-lt-suc}
 use Rattle.ground.specs.Pick.{pick}
 use Rattle.papers.specs.Crc.{polynomial, shifted, eight}
-use Rattle.crc32.proofs.Xor.{xor_odd, xor_half, xor_four, digit}
 
 -- the polynomial as many times as a digit says
-fallen : (d h : ℕ) → d < 2 → pick (eqb d 1) (bit_xor polynomial h) h ≡ bit_xor (d * polynomial) h
+fallen : (d h : ℕ) → d < 2 → pick (d == 1) (bit_xor polynomial h) h ≡ bit_xor (d * polynomial) h
 fallen zero h k = refl
 fallen (suc zero) h k = refl
 fallen (suc (suc d)) h k = absurd (omega arith)
@@ -19,9 +15,16 @@ fallen (suc (suc d)) h k = absurd (omega arith)
 -- a bit as one sum
 pub shifted_is : (c : ℕ) → shifted c ≡ bit_xor (c % 2 * polynomial) (c / 2)
 unfolding shifted
-shifted_is c = fallen (c % 2) (c / 2) (digit c)
+shifted_is c = fallen (c % 2) (c / 2) (omega arith)
 
-times : (x y : ℕ) → x < 2 → y < 2 → differ x y * polynomial ≡ bit_xor (x * polynomial) (y * polynomial)
+-- two sums, by columns
+xor_four : (a b c d : ℕ) → bit_xor (bit_xor a b) (bit_xor c d) ≡ bit_xor (bit_xor a c) (bit_xor b d)
+xor_four a b c d =
+    xor_assoc a b (bit_xor c d)
+    ∙ ap (bit_xor a) (sym (xor_assoc b c d) ∙ ap (λ (x : ℕ). bit_xor x d) (xor_comm b c) ∙ xor_assoc c b d)
+    ∙ sym (xor_assoc a c (bit_xor b d))
+
+times : (x y : ℕ) → x < 2 → y < 2 → bit_xor x y * polynomial ≡ bit_xor (x * polynomial) (y * polynomial)
 times zero y h k = refl
 times (suc zero) zero h k = refl
 times (suc zero) (suc zero) h k = refl
@@ -31,8 +34,8 @@ times (suc (suc x)) y h k = absurd (omega arith)
 pub shifted_xor : (x y : ℕ) → shifted (bit_xor x y) ≡ bit_xor (shifted x) (shifted y)
 shifted_xor x y =
     shifted_is (bit_xor x y)
-    ∙ ap₂ (λ (p q : ℕ). bit_xor (p * polynomial) q) (xor_odd x y) (xor_half x y)
-    ∙ ap (λ (p : ℕ). bit_xor p (bit_xor (x / 2) (y / 2))) (times (x % 2) (y % 2) (digit x) (digit y))
+    ∙ ap₂ (λ (p q : ℕ). bit_xor (p * polynomial) q) (xor_mod x y 1) (xor_shr x y 1)
+    ∙ ap (λ (p : ℕ). bit_xor p (bit_xor (x / 2) (y / 2))) (times (x % 2) (y % 2) (omega arith) (omega arith))
     ∙ xor_four (x % 2 * polynomial) (y % 2 * polynomial) (x / 2) (y / 2)
     ∙ ap₂ bit_xor (sym (shifted_is x)) (sym (shifted_is y))
 

@@ -1,6 +1,5 @@
 -- Each public call is pinned down: two outcomes that its contract allows, at the same arguments, are equal. Assumes nothing.
-use Prim.Native.Nat.{ℕ}
-use mathlib.Core.Path.{sym, ◌∙◌}
+use Rattle.std.proofs.Common.{ℕ, sym, ◌∙◌}
 use Rattle.ground.specs.Pins.{Pins}
 use Rattle.crc32.proofs.of.Kinds as crc_kinds
 use Rattle.crc32.proofs.of.Reads as crc_reads

@@ -1,14 +1,9 @@
 -- The table's rule at all of its words, by one test that is computed, word after word. Assumes nothing.
-use Prim.Native.Nat.{ℕ, zero, suc, ◌+◌, ◌<◌}
-use mathlib.Core.Path.{◌≡◌, ◌∙◌, ap}
-use mathlib.Core.List.{List, [], ◌∷◌}
-use mathlib.Core.Bool.{Bool, true, false}
-use native.Mathlib.Omega.{arith}
-use lib.Dec.{T, eqb, eqb→eq}
-use lib.ListN.{length, get_or}
+use Rattle.std.proofs.Common.{◌≡◌, ℕ, zero, suc, ◌+◌, ◌<◌, List, [], ◌∷◌, Bool, true, false, T, eqb, length, get_or, ap, ◌∙◌, arith}
+use lib.Dec.{eqb→eq}
 use Rattle.ground.specs.Pick.{pick}
 use Rattle.papers.specs.Crc.{eight}
-use Rattle.crc32.specs.Crc.{Table}
+use Rattle.crc32.specs.Crc.{IsTable}
 
 -- whether each word is what eight bits make of its place, counted from i
 abbrev pub ruled : ℕ → List ℕ → Bool
@@ -30,6 +25,5 @@ at i (w ∷ ws) t zero h =
 at i (w ∷ ws) t (suc x) h =
     let e : suc i + x ≡ i + suc x = omega arith in at (suc i) ws (rest (eqb w (eight i)) (ruled (suc i) ws) t) x (omega arith) ∙ ap eight e
 
-pub rule : (ws : List ℕ) → length ws ≡ 256 → T (ruled 0 ws) → Table ws
-unfolding Table
+pub rule : (ws : List ℕ) → length ws ≡ 256 → T (ruled 0 ws) → IsTable ws
 rule ws n t x h = let e : 0 + x ≡ x = omega arith in at 0 ws t x (omega arith) ∙ ap eight e

@@ -2,13 +2,13 @@
 // and where there are many bytes sixteen at a time by sixteen such tables.
 #![tactic(auto)]
 
-ghost use Rattle.std.specs.Prelude.{◌≡◌, ◌+◌, ◌*◌, ◌/◌, ◌%◌, ◌<◌, ◌≤◌, suc, length, take, drop};
+ghost use Rattle.std.specs.Prelude.{◌≡◌, ◌+◌, ◌/◌, ◌%◌, ◌<◌, ◌≤◌, suc, length, drop};
 ghost use Rattle.std.specs.Int.Bits.{bit_xor};
 ghost use Rattle.papers.specs.Crc.{eight, crc, crc_of};
-ghost use Rattle.crc32.specs.Crc.{Table, eights, Laid, Tables, four_by};
+ghost use Rattle.crc32.specs.Crc.{IsTable, eights, Laid, Tables};
 
 // What the register 0 makes of each byte.
-const TABLE: [u32; 256] = [
+const WORDS: [u32; 256] = [
     0x00000000, 0x77073096, 0xee0e612c, 0x990951ba, 0x076dc419, 0x706af48f, 0xe963a535, 0x9e6495a3,
     0x0edb8832, 0x79dcb8a4, 0xe0d5e91e, 0x97d2d988, 0x09b64c2b, 0x7eb17cbd, 0xe7b82d07, 0x90bf1d91,
     0x1db71064, 0x6ab020f2, 0xf3b97148, 0x84be41de, 0x1adad47d, 0x6ddde4eb, 0xf4d4b551, 0x83d385c7,
@@ -55,164 +55,106 @@ fn lowest(c: u32) -> u8
     (c & 255) as u8
 }
 
-// The register after one byte more.
-fn step(table: &[u32; 256], c: u32, b: u8) -> u32
-    requires { Table table.now }
-    ensures { result ≡ eight (bit_xor c b) }
-{
-    table[lowest(c ^ (b as u32)) as usize] ^ (c >> 8)
+// The table that takes a byte at a time. It borrows its words, so that no call copies them.
+#[derive(Clone, Copy)]
+struct Table {
+    words: &'static [u32; 256],
+    ghost rule: { IsTable words.now },
 }
 
-// The register after the bytes.
-fn update(table: &[u32; 256], bytes: &[u8], start: u32) -> u32
-    requires { Table table.now }
-    ensures { result ≡ crc start bytes.now }
-{
-    let mut c = start;
-    let mut i = 0;
-    while i < bytes.len() {
-        c = step(table, c, bytes[i]);
-        i += 1;
+impl Table {
+    // The register after one byte more.
+    fn step(&self, c: u32, b: u8) -> u32
+        ensures { result ≡ eight (bit_xor c b) }
+    {
+        self.words[usize::from(lowest(c ^ u32::from(b)))] ^ (c >> 8)
     }
-    c
-}
 
-// What a place of the sixteen tables is made from: the word one table before it, and in the first table the byte itself.
-fn source(tables: &[u32; 4096], i: usize) -> u32
-    requires i_bound { i < 4096 }
-    requires laid { Laid tables.now i }
-    ensures { result ≡ eights (i / 256) (i % 256) }
-{
-    if i < 256 {
-        return i as u32;
+    // The register after the bytes.
+    #[tactic(auto, using(crate::proofs::Bytewise::crc_is_fold))]
+    fn update(&self, bytes: &[u8], start: u32) -> u32
+        ensures { result ≡ crc start bytes.now }
+    {
+        bytes.iter().fold(start, |c, b| self.step(c, *b))
     }
-    tables[i - 256]
-}
 
-// The sixteen tables, laid out place after place from the first.
-fn lay(table: &[u32; 256], tables: &mut [u32; 4096])
-    requires table { Table table.now }
-    requires tables_len { length tables.old ≡ 4096 }
-    ensures { Tables tables.new }
-{
-    let mut i = 0;
-    while i < 4096 {
-        tables[i] = step(table, source(tables, i), 0);
-        i += 1;
+    // The sixteen tables, one after the other: the first is this one, and after it each word is made from the one 256 places before it.
+    fn lay(&self, words: &mut [u32; 4096])
+        ensures { Tables words.new }
+    {
+        let first = self.words;
+        words[..256].copy_from_slice(first);
+        for i in 256..4096 {
+            words[i] = self.step(words[i - 256], 0);
+        }
+    }
+
+    // The register after the bytes: few of them one by one, many of them by blocks, and then what is left.
+    fn advance(&self, bytes: &[u8], start: u32) -> u32
+        ensures { result ≡ crc start bytes.now }
+    {
+        if bytes.len() < FEW {
+            return self.update(bytes, start);
+        }
+        let mut words = [0; 4096];
+        self.lay(&mut words);
+        let tables = Sixteen { words: &words };
+        let mut c = start;
+        let mut rest = bytes;
+        while let Some((block, more)) = rest.split_first_chunk() {
+            c = tables.block(c, block);
+            rest = more;
+        }
+        self.update(rest, c)
     }
 }
 
-// The word of table k at x.
-fn look(tables: &[u32; 4096], k: usize, x: u8) -> u32
-    requires k_bound { k < 16 }
-    requires tables { Tables tables.now }
-    ensures { result ≡ eights (suc k) x }
-{
-    tables[256 * k + (x as usize)]
+// The sixteen tables, one after the other.
+#[derive(Clone, Copy)]
+struct Sixteen<'a> {
+    words: &'a [u32; 4096],
+    ghost laid: { Tables words.now },
 }
 
-// Four bytes, each by its table, added to r. The first comes in last: in a block it hangs on the register, and little else waits for it.
-fn four(tables: &[u32; 4096], k: usize, b0: u8, b1: u8, b2: u8, b3: u8, r: u32) -> u32
-    requires k_bound { k < 13 }
-    requires tables { Tables tables.now }
-    ensures { result ≡ four_by k b0 b1 b2 b3 r }
-{
-    look(tables, k + 3, b0)
-        ^ (look(tables, k + 2, b1) ^ (look(tables, k + 1, b2) ^ (look(tables, k, b3) ^ r)))
-}
-
-// What the register 0 makes of the four bytes from i and the k after them; r is what it makes of those k.
-fn quad(tables: &[u32; 4096], k: usize, bytes: &[u8], i: usize, r: u32) -> u32
-    requires k_bound { k < 13 }
-    requires tables { Tables tables.now }
-    requires in_bytes { i + 4 + k ≤ length bytes.now }
-    requires rest { r ≡ crc 0 (take k (drop (i + 4) bytes.now)) }
-    ensures { result ≡ crc 0 (take (k + 4) (drop i bytes.now)) }
-{
-    four(
-        tables,
-        k,
-        bytes[i],
-        bytes[i + 1],
-        bytes[i + 2],
-        bytes[i + 3],
-        r,
-    )
-}
-
-// Four bytes as a word, the lowest first: one load, once compiled.
-fn word(b0: u8, b1: u8, b2: u8, b3: u8) -> u32
-    ensures { result ≡ b0 + b1 * 256 + b2 * 65536 + b3 * 16777216 }
-{
-    (b0 as u32) + (b1 as u32) * 256 + (b2 as u32) * 65536 + (b3 as u32) * 16777216
-}
-
-// What the register c makes of the sixteen bytes from i; r is what the register 0 makes of the last twelve.
-fn head(tables: &[u32; 4096], c: u32, bytes: &[u8], i: usize, r: u32) -> u32
-    requires tables { Tables tables.now }
-    requires in_bytes { i + 16 ≤ length bytes.now }
-    requires rest { r ≡ crc 0 (take 12 (drop (i + 4) bytes.now)) }
-    ensures { result ≡ crc c (take 16 (drop i bytes.now)) }
-{
-    let w = c ^ word(bytes[i], bytes[i + 1], bytes[i + 2], bytes[i + 3]);
-    four(
-        tables,
-        12,
-        lowest(w),
-        lowest(w >> 8),
-        lowest(w >> 16),
-        lowest(w >> 24),
-        r,
-    )
-}
-
-// The register after the sixteen bytes from i.
-fn block(tables: &[u32; 4096], c: u32, bytes: &[u8], i: usize) -> u32
-    requires tables { Tables tables.now }
-    requires in_bytes { i + 16 ≤ length bytes.now }
-    ensures { result ≡ crc c (take 16 (drop i bytes.now)) }
-{
-    let z = quad(tables, 0, bytes, i + 12, 0);
-    let y = quad(tables, 4, bytes, i + 8, z);
-    let x = quad(tables, 8, bytes, i + 4, y);
-    head(tables, c, bytes, i, x)
-}
-
-// The register after whole blocks.
-fn blocks(tables: &[u32; 4096], bytes: &[u8], start: u32) -> u32
-    requires tables { Tables tables.now }
-    requires whole_blocks { length bytes.now % 16 ≡ 0 }
-    ensures { result ≡ crc start bytes.now }
-{
-    let mut c = start;
-    let mut i = 0;
-    while i < bytes.len() {
-        c = block(tables, c, bytes, i);
-        i += 16;
+impl Sixteen<'_> {
+    // The word of table k at x.
+    fn word(&self, k: usize, x: u8) -> u32
+        requires { k < 16 }
+        ensures { result ≡ eights (suc k) x }
+    {
+        self.words[256 * k + usize::from(x)]
     }
-    c
-}
 
-// The register after the bytes: few of them one by one, many of them by blocks, and then what is left.
-fn advance(table: &[u32; 256], bytes: &[u8], start: u32) -> u32
-    requires { Table table.now }
-    ensures { result ≡ crc start bytes.now }
-{
-    if bytes.len() < FEW {
-        return update(table, bytes, start);
+    // What the register c makes of the bytes; rest is what the register 0 makes of those after the first four.
+    // The first byte comes in last: in a block it hangs on the register, and little else waits for it.
+    fn four(&self, c: u32, bytes: &[u8], rest: u32) -> u32
+        requires at_least { 4 ≤ length bytes.now }
+        requires at_most { length bytes.now ≤ 16 }
+        requires after { rest ≡ crc 0 (drop 4 bytes.now) }
+        ensures { result ≡ crc c bytes.now }
+    {
+        let k = bytes.len() - 4;
+        let w = c ^ u32::from_le_bytes([bytes[0], bytes[1], bytes[2], bytes[3]]);
+        self.word(k + 3, lowest(w))
+            ^ (self.word(k + 2, lowest(w >> 8))
+                ^ (self.word(k + 1, lowest(w >> 16)) ^ (self.word(k, lowest(w >> 24)) ^ rest)))
     }
-    let mut tables: [u32; 4096] = [0; 4096];
-    lay(table, &mut tables);
-    let n = bytes.len() - bytes.len() % 16;
-    let c = blocks(&tables, &bytes[..n], start);
-    update(table, &bytes[n..], c)
+
+    // The register after a block: four bytes at a time, from the last to the first.
+    fn block(&self, c: u32, block: &[u8; 16]) -> u32
+        ensures { result ≡ crc c block.now }
+    {
+        let z = self.four(0, &block[12..], 0);
+        let y = self.four(0, &block[8..], z);
+        let x = self.four(0, &block[4..], y);
+        self.four(c, block, x)
+    }
 }
 
 // The CRC of bytes, as a suffix stores it: the complement of what zlib's crc32 gives.
 pub fn of(bytes: &[u8]) -> u32
     ensures { result ≡ crc_of bytes.now }
 {
-    // The table is laid out once, not at each byte.
-    let table = TABLE;
-    advance(&table, bytes, START)
+    let table = Table { words: &WORDS };
+    table.advance(bytes, START)
 }

@@ -1,54 +1,41 @@
 // Shows what the suffix of a firmware file says, or why the file is refused.
 #![tactic(auto)]
 
-mod file;
-mod print;
 mod report;
 
-use file::File;
-use std::env::{Env, FillError};
+use console::{FILE_SPACE, LONGEST_FILE, LONGEST_WORD, is_there, read, refuse, word};
+use std::env::Env;
 use std::fs::Files;
 use std::io;
-use suffix::Suffix;
+use std::io::Read;
 
-// The first n bytes, or all if there are fewer.
-fn first(s: &[u8], n: usize) -> &[u8] {
-    if n <= s.len() {
-        return &s[0..n];
-    }
-    s
+// Whether a file is at its end: then one more read brings nothing and doesn't fail. That is the answer that counts, also after a read that failed.
+fn is_ended(file: &mut impl Read) -> bool {
+    matches!(file.read(&mut [0u8; 1]), Ok(0))
 }
 
-fn show(rt: &impl Print, file: &[u8]) -> io::Result<()> {
-    let checked = Suffix::check(file);
-    let read = checked.suffix;
-    report::show(rt, read, checked.firmware, file.len())
-}
-
-fn with_space(rt: &(impl Env + Files + Print), space: &mut [u8; file::SPACE]) -> io::Result<()> {
-    match file::read(rt, 1, space)? {
-        File::Read(n) => show(rt, first(space, n)),
-        File::Refused => Ok(()),
-    }
-}
-
-// Whether a word stands at a place of the command line.
-fn is_there(rt: &impl Env, at: usize) -> bool {
-    match rt.arg(at, &mut []) {
-        Err(FillError::NotPresent) => false,
-        _ => true,
+// Reads the file that the first word names into a lent space, and shows what its suffix says.
+fn show(rt: &(impl Env + Files + Print), space: &mut [u8; FILE_SPACE]) -> io::Result<()> {
+    let mut name = [0u8; LONGEST_WORD];
+    let Ok(name) = word(rt, 1, &mut name) else {
+        return refuse(
+            rt,
+            b"FILE",
+            format_args!("is a name of more than {LONGEST_WORD} bytes"),
+        );
+    };
+    match read(rt, name, space, |file, _| is_ended(file)) {
+        Ok(file) => report::show(rt, file),
+        Err(problem) => refuse(rt, name, problem),
     }
 }
 
 fn main(rt: HostRuntime) -> io::Result<()> {
     // The first word is the program's own name.
     if !is_there(&rt, 1) || is_there(&rt, 2) {
-        print::text(
-            &rt,
-            b"usage: dfu_file FILE, which has at most 4194304 bytes\n",
-        )?;
-        return print::text(&rt, b"refused: there has to be one FILE\n");
+        println!(rt; "usage: dfu_file FILE, which has at most {LONGEST_FILE} bytes")?;
+        return println!(rt; "refused: there has to be one FILE");
     }
-    let mut space = [0u8; file::SPACE];
-    with_space(&rt, &mut space)
+    let mut space = [0u8; FILE_SPACE];
+    show(&rt, &mut space)
 }

@@ -1,44 +1,33 @@
--- A part of a list and a name as the code takes them. Assumes nothing.
-use Prim.Native.Nat.{ℕ, suc, ◌+◌, ◌-◌, ◌<◌, ◌≤◌}
-use mathlib.Core.Path.{◌≡◌, refl, sym, ap, ◌∙◌}
-use mathlib.Core.List.{List, [], ◌∷◌}
-use native.Mathlib.Omega.{arith}
-use lib.ListN.{length, take, drop, get_or, length-drop, drop_of_length-le}
-use lib.Seq.{take_all, take-nil, drop-cons}
-use lib.Dec.{eqb}
-use borrow.Author.Tests.{eq-eqb, ne_eqb}
-use Rattle.ground.proofs.Tests.{picked}
-use Rattle.ground.proofs.Lists.{onwards}
+-- A name as the code takes it: up to the first zero. Assumes nothing.
+use Rattle.std.proofs.Common.{◌≡◌, ℕ, suc, ◌+◌, List, [], ◌∷◌, ◌==◌, eqb, ltb, cond, Bool, true, false, length, take, position, Some, None, refl, sym, ap, ◌∙◌, arith}
+use Rattle.std.proofs.Math.Seq.{take_all}
+use Rattle.std.specs.List.{position_or_len}
+use borrow.Author.Tests.{ltb-false}
 use Rattle.dfuse_file.specs.Placed.{name_in}
 
-pub past : (s : List ℕ) (p n : ℕ) → length s < p → [] ≡ take n (drop p s)
-past s p n h = sym (ap (take n) (drop_of_length-le s {i = p} (omega arith)) ∙ take-nil n)
+abbrev zero_at : List ℕ → ℕ
+zero_at s = position_or_len (λ b. b == 0) s
 
-pub short : (s : List ℕ) (p n : ℕ) → length s - p < n → take (length s - p) (drop p s) ≡ take n (drop p s)
-short s p n h = onwards p s ∙ sym (take_all n (drop p s) (omega (arith, length-drop p s)))
-
-pub full : (s : List ℕ) (p n : ℕ) → take (p + n - p) (drop p s) ≡ take n (drop p s)
-full s p n = let e : p + n - p ≡ n = omega arith in ap (λ (k : ℕ). take k (drop p s)) e
-
--- a name: where it stops, and one byte more
-pub name_stops : (s : List ℕ) (i : ℕ) → i < length s → get_or s i 0 ≡ 0 → name_in (drop i s) ≡ []
+up_to_zero : (s : List ℕ) → take (zero_at s) s ≡ name_in s
 unfolding name_in
-name_stops s i h z = ap name_in (drop-cons s i 0 h) ∙ simp (eq-eqb (get_or s i 0) 0 z)
+up_to_zero [] = refl
+up_to_zero (b ∷ s) = by (eqb b 0) refl (up_to_zero s)
+  where
+    by : (t : Bool) → eqb b 0 ≡ t → take (zero_at s) s ≡ name_in s → take (zero_at (b ∷ s)) (b ∷ s) ≡ name_in (b ∷ s)
+    by true e r = simp e
+    by false e r = let w : 1 + zero_at s ≡ suc (zero_at s) = omega arith in simp e (rw w (ap (λ (l : List ℕ). b ∷ l) r))
 
-pub name_ends : (s : List ℕ) (i : ℕ) → length s ≤ i → name_in (drop i s) ≡ []
-unfolding name_in
-name_ends s i h = ap name_in (drop_of_length-le s {i = i} h)
+-- where there is a zero, and where there is none
+pub stops : (s : List ℕ) (n : ℕ) → Some n ≡ position (λ b. b == 0) s → take n s ≡ name_in s
+stops s n e = by (ltb (zero_at s) (length s)) refl e
+  where
+    by : (t : Bool) → ltb (zero_at s) (length s) ≡ t → Some n ≡ cond t (Some (zero_at s)) None → take n s ≡ name_in s
+    by true q e = let h : n ≡ zero_at s = cc in rw h (up_to_zero s)
+    by false q e = absurd (cc)
 
-pub name_goes : (s : List ℕ) (i : ℕ) → i < length s → (get_or s i 0 ≡ 0 → ⊥) → length (name_in (drop i s)) ≡ suc (length (name_in (drop (i + 1) s)))
-unfolding name_in
-name_goes s i h n =
-    let e : suc i ≡ i + 1 = omega arith in
-    ap (λ (l : List ℕ). length (name_in l)) (drop-cons s i 0 h)
-    ∙ simp (ne_eqb (get_or s i 0) 0 n)
-    (ap (λ (k : ℕ). suc (length (name_in (drop k s)))) e)
-
-pub name_taken : (s : List ℕ) → take (length (name_in s)) s ≡ name_in s
-unfolding name_in
-name_taken [] = refl
-name_taken (b ∷ s) =
-    picked (λ (l : List ℕ). take (length l) (b ∷ s) ≡ l) (eqb b 0) [] (b ∷ name_in s) (λ e. refl) (λ e. ap (λ (l : List ℕ). b ∷ l) (name_taken s))
+pub goes_on : (s : List ℕ) → None ≡ position (λ b. b == 0) s → s ≡ name_in s
+goes_on s e = by (ltb (zero_at s) (length s)) refl e
+  where
+    by : (t : Bool) → ltb (zero_at s) (length s) ≡ t → None ≡ cond t (Some (zero_at s)) None → s ≡ name_in s
+    by true q e = absurd (cc)
+    by false q e = sym (take_all (zero_at s) s (ltb-false (zero_at s) (length s) q)) ∙ up_to_zero s

@@ -1,23 +1,17 @@
 -- The parts of a file that is read lie within it, and are the elements' data; and so are the names. Assumes nothing.
-use Prim.Native.Nat.{ℕ, zero, suc, ◌+◌, ◌-◌, ◌<◌, ◌≤◌}
-use mathlib.Core.Path.{◌≡◌, refl, sym, ap, ap₂, subst, ◌∙◌}
-use mathlib.Core.List.{List, [], ◌∷◌, ◌++◌, append_assoc, map, map-append}
-use mathlib.Core.Logic.{⊎_elim}
-use native.Mathlib.Omega.{arith}
-use lib.ListN.{length, take, drop, get_or, length-append}
-use lib.Seq.{take-append_seam, drop-append-add}
-use borrow.Author.Tests.{lt-ltb, le-ltb}
+use Rattle.std.proofs.Common.{◌≡◌, ℕ, zero, suc, ◌+◌, ◌-◌, ◌≤◌, List, [], ◌∷◌, ◌++◌, map, Some, slice_get, Result, Ok, Err, length, take, drop, get_or, refl, sym, ap, ap₂, ◌∙◌, arith, length-append, append_assoc}
+use Rattle.std.proofs.Math.Seq.{take-append_seam, drop-append-add}
+use mathlib.Core.List.{map-append}
 use Rattle.ground.specs.Bytes.{Bytes}
-use Rattle.ground.proofs.Tests.{lt_or_ge}
 use Rattle.papers.specs.Suffix.{four, opening, dw_crc}
 use Rattle.papers.specs.Um0391 as paper
 use Rattle.papers.specs.Um0391.{element_of, elements_of, sz_target, target_of, targets_of, sz_dfu_se, image_size, image_of, Named}
 use Rattle.suffix.proofs.Appendix.{ids_of}
 use Rattle.dfuse_file.specs.declared.Element.{Element}
 use Rattle.dfuse_file.specs.declared.Target.{Target}
-use Rattle.dfuse_file.specs.declared.OneElement.{OneElement}
-use Rattle.dfuse_file.specs.Reading.{Held, Holds, Not, dfuse_in}
-use Rattle.dfuse_file.specs.Placed.{placed, placed_in, placed_all, placed_target, placed_targets, elements_held, targets_held, blank_element, blank_target, one_element, one_target, element_at, part_of, part_at, name_in, name_of, name_at, target_at}
+use Rattle.dfuse_file.specs.declared.error.Error.{Error}
+use Rattle.dfuse_file.specs.Reading.{Held, dfuse_in}
+use Rattle.dfuse_file.specs.Placed.{placed, placed_in, placed_all, placed_target, placed_targets, elements_held, targets_held, element_at, part_of, part_at, name_in, name_of, name_at, target_at}
 use Rattle.dfuse_file.proofs.File.{only_the_paper, Paper}
 
 -- the data of all elements, and the names of all targets, in the file's order
@@ -28,13 +22,13 @@ abbrev pub all_data : List paper.Target → List (List ℕ)
 all_data [] = []
 all_data (t ∷ ts) = data_of t.elements ++ all_data ts
 
-abbrev pub data_held : Held → List (List ℕ)
-data_held (Holds c i crc ts) = all_data ts
-data_held (Not e) = []
+abbrev pub data_held : Result Held Error → List (List ℕ)
+data_held (Ok h) = all_data h.targets
+data_held (Err e) = []
 
-abbrev pub names_held : Held → List (List ℕ)
-names_held (Holds c i crc ts) = map (λ (t : paper.Target). t.sz_target_name) ts
-names_held (Not e) = []
+abbrev pub names_held : Result Held Error → List (List ℕ)
+names_held (Ok h) = map (λ (t : paper.Target). t.sz_target_name) h.targets
+names_held (Err e) = []
 
 abbrev cut_of : List ℕ → Element → List ℕ
 cut_of f e = take e.size (drop e.place f)
@@ -162,60 +156,37 @@ within_targets n index at (t ∷ ts) m h =
     (within_targets n (index + 1) (at + (274 + length (elements_of t.elements))) ts m.1 (omega (arith, h, l, z)))
 
 -- all three of a file that the paper lays out
-abbrev Hold : List ℕ → Held → Type 0
+abbrev Hold : List ℕ → Result Held Error → Type 0
 Hold f q =
     (map (cut_of f) (elements_held q) ≡ data_held q) × (map (named_in f) (targets_held q) ≡ names_held q) × Within (length f - 16) (elements_held q)
 
-hold : (f : List ℕ) (q : Held) → Paper f q → Hold f q
-hold f (Not e) p = (refl, refl, tt)
-hold f (Holds c i crc ts) p =
-    let front : List ℕ = sz_dfu_se ++ (1 ∷ (four (image_size c ts) ++ (length ts ∷ []))) in
-    let back : List ℕ = opening (ids_of i) ++ four (dw_crc (image_of c ts) (ids_of i)) in (
+hold : (f : List ℕ) (q : Result Held Error) → Paper f q → Hold f q
+hold f (Err e) p = (refl, refl, tt)
+hold f (Ok h) p =
+    let ts : List paper.Target = h.targets in
+    let front : List ℕ = sz_dfu_se ++ (1 ∷ (four (image_size h.counted ts) ++ (length ts ∷ []))) in
+    let back : List ℕ = opening (ids_of h.identities) ++ four (dw_crc (image_of h.counted ts) (ids_of h.identities)) in (
       ap (λ (g : List ℕ). map (cut_of g) (placed_all 0 11 ts)) p.0 ∙ cut_targets 0 ts front back 11 p.1 refl,
       ap (λ (g : List ℕ). map (named_in g) (placed_targets 0 11 ts)) p.0 ∙ name_targets 0 ts front back 11 p.1 refl,
-      within_targets (length f - 16) 0 11 ts p.1 (omega (arith, ap length p.0, length-append (image_of c ts) back)),
+      within_targets (length f - 16) 0 11 ts p.1 (omega (arith, ap length p.0, length-append (image_of h.counted ts) back)),
     )
 
--- an index in a list of parts, and past its end
-inside : {A : Type 0} (g : A → List ℕ) (d : A) (xs : List A) (i : ℕ) → i < length xs → g (get_or xs i d) ≡ get_or (map g xs) i []
-inside g d [] i l = absurd (omega arith)
-inside g d (x ∷ xs) zero l = refl
-inside g d (x ∷ xs) (suc i) l = inside g d xs i (omega arith)
+-- an index in a list of parts: what stands there, or nothing past its end
+get_part : (f : List ℕ) (es : List Element) (i : ℕ) → part_of f (slice_get es i) ≡ get_or (map (cut_of f) es) i []
+get_part f [] i = refl
+get_part f (e ∷ es) zero = refl
+get_part f (e ∷ es) (suc i) = get_part f es i
 
-outside : {A : Type 0} (g : A → List ℕ) (xs : List A) (i : ℕ) → length xs ≤ i → [] ≡ get_or (map g xs) i []
-outside g [] i h = refl
-outside g (x ∷ xs) zero h = absurd (omega arith)
-outside g (x ∷ xs) (suc i) h = outside g xs i (omega arith)
-
-get_part : (f : List ℕ) (es : List Element) (i : ℕ) → part_of f (one_element i es) ≡ get_or (map (cut_of f) es) i []
-get_part f es i =
-    ⊎_elim (λ l. simp (lt-ltb i (length es) l) (inside (cut_of f) blank_element es i l)) (λ g. simp (le-ltb i (length es) g) (outside (cut_of f) es i g))
-    (lt_or_ge i (length es))
-
-get_name : (f : List ℕ) (ts : List Target) (i : ℕ) → name_of f (one_target i ts) ≡ name_in (get_or (map (named_in f) ts) i [])
+get_name : (f : List ℕ) (ts : List Target) (i : ℕ) → name_of f (slice_get ts i) ≡ name_in (get_or (map (named_in f) ts) i [])
 unfolding name_in
-get_name f ts i =
-    ⊎_elim (λ l. simp (lt-ltb i (length ts) l) (ap name_in (inside (named_in f) blank_target ts i l)))
-    (λ g. simp (le-ltb i (length ts) g) (ap name_in (outside (named_in f) ts i g)))
-    (lt_or_ge i (length ts))
+get_name f [] i = refl
+get_name f (t ∷ ts) zero = refl
+get_name f (t ∷ ts) (suc i) = get_name f ts i
 
-get_within : (n : ℕ) (es : List Element) (i : ℕ) → Within n es → i < length es → (get_or es i blank_element).place + (get_or es i blank_element).size ≤ n
-get_within n [] i w h = absurd (omega arith)
-get_within n (e ∷ es) zero w h = w.0
-get_within n (e ∷ es) (suc i) w h = get_within n es i w.1 (omega arith)
-
-abbrev element_of_lem : OneElement → Element
-element_of_lem (OneElement.Found e) = e
-element_of_lem OneElement.Nothing = blank_element
-
-get_one : (n : ℕ) (es : List Element) (i : ℕ) (e : Element) → Within n es → one_element i es ≡ OneElement.Found e → e.place + e.size ≤ n
-get_one n es i e w q =
-    ⊎_elim
-    (λ l. let y : one_element i es ≡ OneElement.Found (get_or es i blank_element) = simp (lt-ltb i (length es) l) in
-    let x : OneElement.Found (get_or es i blank_element) ≡ OneElement.Found e = sym y ∙ q in
-    subst (λ (y : Element). y.place + y.size ≤ n) (ap element_of_lem x) (get_within n es i w l))
-    (λ g. absurd (let x : OneElement.Nothing ≡ one_element i es = simp (le-ltb i (length es) g) in let z : ◌≡◌ {A = ℕ} 0 1 = cc in omega arith))
-    (lt_or_ge i (length es))
+get_one : (n : ℕ) (es : List Element) (i : ℕ) (e : Element) → Within n es → slice_get es i ≡ Some e → e.place + e.size ≤ n
+get_one n [] i e w q = absurd (cc)
+get_one n (x ∷ es) zero e w q = let p : x ≡ e = cc in rw (← p) w.0
+get_one n (x ∷ es) (suc i) e w q = get_one n es i e w.1 q
 
 module _ (f : List ℕ) (h : Bytes f) (i : ℕ) where
   -- AN ELEMENT'S PART IS ITS DATA; there is none where there is no element
@@ -230,6 +201,6 @@ module _ (f : List ℕ) (h : Bytes f) (i : ℕ) where
       get_name f (targets_held (dfuse_in f)) i ∙ ap (λ (l : List (List ℕ)). name_in (get_or l i [])) (hold f (dfuse_in f) (only_the_paper f h)).1
 
   -- AN ELEMENT'S PART LIES WITHIN THE FILE, before its suffix
-  pub parts_lie_within : (e : Element) → element_at i f ≡ OneElement.Found e → e.place + e.size ≤ length f - 16
+  pub parts_lie_within : (e : Element) → element_at i f ≡ Some e → e.place + e.size ≤ length f - 16
   unfolding element_at
   parts_lie_within e w = get_one (length f - 16) (elements_held (dfuse_in f)) i e (hold f (dfuse_in f) (only_the_paper f h)).2 w

@@ -1,11 +1,7 @@
 -- The elements of a target, read and laid out: one is the other's inverse. Assumes nothing.
-use Prim.Native.Nat.{ℕ, zero, suc, ◌+◌, ◌-◌, ◌≤◌}
-use mathlib.Core.Path.{◌≡◌, refl, sym, ap, ap₂, ◌∙◌}
-use mathlib.Core.List.{List, [], ◌∷◌, ◌++◌}
-use native.Mathlib.Omega.{arith}
-use lib.ListN.{length, take, drop, length-append, length-drop, take-append-drop}
-use lib.Seq.{length-take-le, take-append_seam, drop-append_seam, drop-drop, take-add}
-use lib.Dec.{eqb, ltb}
+use Rattle.std.proofs.Common.{◌≡◌, ℕ, zero, suc, ◌+◌, ◌-◌, ◌≤◌, List, [], ◌∷◌, ◌++◌, eqb, ltb, length, take, drop, Ok, Err, refl, sym, ap, ap₂, ◌∙◌, arith, length-append, length-drop}
+use Rattle.std.proofs.Math.ListN.{take-append-drop}
+use Rattle.std.proofs.Math.Seq.{length-take-le, take-append_seam, drop-append_seam, drop-drop, take-add}
 use borrow.Author.Tests.{le-ltb, ltb-false, eqb-true}
 use Rattle.ground.specs.Bytes.{field, Bytes}
 use Rattle.ground.proofs.Numbers.{bytes_drop}
@@ -13,7 +9,7 @@ use Rattle.ground.proofs.Tests.{picked}
 use Rattle.papers.specs.Suffix.{four}
 use Rattle.papers.proofs.Fours.{four_field, field_four, field_drop}
 use Rattle.papers.specs.Um0391.{Element, element_of, elements_of}
-use Rattle.dfuse_file.specs.Reading.{Got, Took, No, more, elements_in}
+use Rattle.dfuse_file.specs.Reading.{Got, more, elements_in}
 
 -- a list without elements
 pub nothing : (l : List ℕ) → length l ≡ 0 → l ≡ []
@@ -21,10 +17,10 @@ nothing [] e = refl
 nothing (x ∷ l) e = absurd (omega arith)
 
 -- WHAT IS LAID OUT IS READ ..
-more_took : {A : Type 0} (x : A) {g : Got A} {xs : List A} → g ≡ Took xs → more x g ≡ Took (x ∷ xs)
-more_took x e = ap (more x) e
+more_ok : {A : Type 0} (x : A) {g : Got A} {xs : List A} → g ≡ Ok xs → more x g ≡ Ok (x ∷ xs)
+more_ok x e = ap (more x) e
 
-pub reads_elements : (es : List Element) (at : ℕ) → elements_in (length es) at (elements_of es) ≡ Took es
+pub reads_elements : (es : List Element) (at : ℕ) → elements_in (length es) at (elements_of es) ≡ Ok es
 unfolding elements_in elements_of
 reads_elements [] at = refl
 reads_elements (e ∷ es) at =
@@ -35,13 +31,13 @@ reads_elements (e ∷ es) at =
     let d : take (length e.Data) (drop 8 s) ≡ e.Data = take-append_seam e.Data (elements_of es) in
     let r : drop (8 + length e.Data) s ≡ elements_of es = sym (drop-drop (length e.Data) 8 s) ∙ drop-append_seam e.Data (elements_of es) in
     simp (le-ltb (length s) 8 (omega (arith, n)), z, le-ltb (length s - 8) (length e.Data) (omega (arith, n)), a, d, r)
-    (more_took e (reads_elements es (at + (8 + length e.Data))))
+    (more_ok e (reads_elements es (at + (8 + length e.Data))))
 
 -- .. AND NOTHING ELSE IS
 -- what it is to have been read: the list laid out is the bytes, and it has as many as were asked for
 abbrev pub Laid : ℕ → List ℕ → Got Element → Type 0
-Laid n s (Took es) = (elements_of es ≡ s) × (length es ≡ n)
-Laid n s (No r) = Unit
+Laid n s (Ok es) = (elements_of es ≡ s) × (length es ≡ n)
+Laid n s (Err r) = Unit
 
 module _ (n : ℕ) (s : List ℕ) (h : Bytes s) (m : 8 ≤ length s) (k : field 4 4 s ≤ length s - 8) where
   abbrev z : ℕ
@@ -64,8 +60,8 @@ module _ (n : ℕ) (s : List ℕ) (h : Bytes s) (m : 8 ≤ length s) (k : field 
 
   grows : (g : Got Element) → Laid n (drop (8 + z) s) g → Laid (suc n) s (more one g)
   unfolding elements_of
-  grows (Took es) l = (ap₂ (λ (x y : List ℕ). x ++ y) first l.0 ∙ take-append-drop (8 + z) s, ap suc l.1)
-  grows (No r) l = tt
+  grows (Ok es) l = (ap₂ (λ (x y : List ℕ). x ++ y) first l.0 ∙ take-append-drop (8 + z) s, ap suc l.1)
+  grows (Err r) l = tt
 
 pub only_elements : (n at : ℕ) (s : List ℕ) → Bytes s → Laid n s (elements_in n at s)
 unfolding elements_in elements_of

@@ -1,12 +1,7 @@
 -- A whole file against UM0391, both ways: what the paper lays out is read, nothing else is, and in one way. Assumes nothing.
-use Prim.Native.Nat.{ℕ, ◌+◌, ◌-◌, ◌≤◌}
-use mathlib.Core.Path.{◌≡◌, refl, sym, ap, ap₂, subst, ◌∙◌}
-use mathlib.Core.List.{List, [], ◌∷◌, ◌++◌}
-use mathlib.Core.Bool.{Bool, true, false}
-use native.Mathlib.Omega.{arith}
-use lib.ListN.{length, take, drop, get_or, length-drop, take-append-drop}
-use lib.Seq.{drop-drop, drop-cons}
-use lib.Dec.{eqb, ltb}
+use Rattle.std.proofs.Common.{◌≡◌, ℕ, ◌+◌, ◌-◌, ◌≤◌, List, [], ◌∷◌, ◌++◌, Bool, true, false, eqb, ltb, length, take, drop, get_or, Result, Ok, Err, refl, sym, ap, ap₂, subst, ◌∙◌, arith, length-drop}
+use Rattle.std.proofs.Math.ListN.{take-append-drop}
+use Rattle.std.proofs.Math.Seq.{drop-drop, drop-cons}
 use borrow.Author.Tests.{le-ltb, ltb-false, eq-eqb, ne_eqb, eqb-true}
 use Rattle.ground.specs.Pick.{pick}
 use Rattle.ground.specs.Bytes.{field, prefix, Bytes}
@@ -15,15 +10,15 @@ use Rattle.ground.proofs.Prefix.{starts, leads}
 use Rattle.ground.proofs.Tests.{picked}
 use Rattle.papers.specs.Suffix.{Ids, four, dw_crc, file_of}
 use Rattle.suffix.proofs.Tested.{part_is}
-use Rattle.suffix.specs.declared.Identities.{Identities}
 use Rattle.suffix.specs.declared.Suffix.{Suffix}
+use Rattle.suffix.specs.declared.Error as suffix
 use Rattle.suffix.specs.Suffix.{suffix_of, firmware_of}
 use Rattle.suffix.proofs.Appendix.{named, ids_of, only_the_appendix, only_the_appendix_crc}
 use Rattle.suffix.proofs.AppendixRead.{reads_the_appendix, hands_the_firmware}
-use Rattle.dfuse_file.specs.declared.Error.{Error}
+use Rattle.dfuse_file.specs.declared.error.Error.{Error}
 use Rattle.papers.proofs.Fours.{four_field, field_four, field_drop}
 use Rattle.papers.specs.Um0391.{Target, sz_dfu_se, targets_of, image_size, image_of, Named, dfuse_of}
-use Rattle.dfuse_file.specs.Reading.{Got, Took, No, fits, targets_in, image_in, Held, Holds, Not, held, by_suffix, dfuse_in}
+use Rattle.dfuse_file.specs.Reading.{Got, fits, targets_in, image_in, Held, held, by_suffix, dfuse_in}
 use Rattle.dfuse_file.proofs.Targets.{reads_targets, only_targets, LaidOut}
 
 -- the image size, read
@@ -51,7 +46,7 @@ module _ (c : Bool) (ts : List Target) where
   long : length s ≡ 11 + length (targets_of ts)
   long = omega arith
 
-  pub reads_image : Named ts → image_in s ≡ Took ts
+  pub reads_image : Named ts → image_in s ≡ Ok ts
   unfolding image_in
   reads_image h =
       simp (
@@ -68,8 +63,8 @@ module _ (c : Bool) (ts : List Target) where
 
 -- .. and nothing else: what an image is that was read
 abbrev LaidImage : List ℕ → Got Target → Type 0
-LaidImage s (Took ts) = (s ≡ image_of (eqb (field 6 4 s) (length s + 16)) ts) × Named ts
-LaidImage s (No r) = Unit
+LaidImage s (Ok ts) = (s ≡ image_of (eqb (field 6 4 s) (length s + 16)) ts) × Named ts
+LaidImage s (Err r) = Unit
 
 module _ (s : List ℕ) (h : Bytes s) (m : 11 ≤ length s) (g : prefix sz_dfu_se s ≡ true) (v : get_or s 5 0 ≡ 1) (f : fits (field 6 4 s) (length s) ≡ true) where
   abbrev counted : Bool
@@ -82,9 +77,9 @@ module _ (s : List ℕ) (h : Bytes s) (m : 11 ≤ length s) (g : prefix sz_dfu_s
     where
       by : (t : Bool) → eqb (field 6 4 s) (length s) ≡ t → field 6 4 s ≡ length s + 0
       by true q = omega (arith, eqb-true (field 6 4 s) (length s) q)
-      by false q = absurd (let x : counted ≡ true = ap (λ (t : Bool). pick t true counted) (sym q) ∙ f in let z : ◌≡◌ {A = ℕ} 0 1 = cc in omega arith)
+      by false q = absurd (let x : counted ≡ true = ap (λ (t : Bool). pick t true counted) (sym q) ∙ f in cc)
 
-  module _ (ts : List Target) (l : LaidOut (get_or s 10 0) (drop 11 s) (Took ts)) where
+  module _ (ts : List Target) (l : LaidOut (get_or s 10 0) (drop 11 s) (Ok ts)) where
     long_is : length s ≡ 11 + length (targets_of ts)
     long_is = omega (arith, ap length l.0, length-drop 11 s, m)
 
@@ -104,8 +99,8 @@ module _ (s : List ℕ) (h : Bytes s) (m : 11 ≤ length s) (g : prefix sz_dfu_s
         ∙ take-append-drop 5 s)
 
   laid_image : (q : Got Target) → LaidOut (get_or s 10 0) (drop 11 s) q → LaidImage s q
-  laid_image (Took ts) l = (image_is ts l, l.2)
-  laid_image (No r) l = tt
+  laid_image (Ok ts) l = (image_is ts l, l.2)
+  laid_image (Err r) l = tt
 
 pub only_image : (s : List ℕ) → Bytes s → LaidImage s (image_in s)
 unfolding image_in
@@ -121,39 +116,39 @@ only_image s h =
     (λ g. tt))
 
 -- WHAT THE PAPER LAYS OUT IS READ
-pub reads_the_paper : (c : Bool) (ts : List Target) (i : Ids) → Named ts → i.bcd_dfu ≡ 0x011A → dfuse_in (dfuse_of c ts i) ≡ Holds c (named i) (dw_crc (image_of c ts) i) ts
+pub reads_the_paper : (c : Bool) (ts : List Target) (i : Ids) → Named ts → i.bcd_dfu ≡ 0x011A
+    → dfuse_in (dfuse_of c ts i) ≡ Ok (record { counted = c; identities = named i; crc = dw_crc (image_of c ts) i; targets = ts })
 unfolding dfuse_in
 reads_the_paper c ts i h v =
+    let x : Suffix = record { identities = named i; crc = dw_crc (image_of c ts) i } in
     ap₂ by_suffix (reads_the_appendix (image_of c ts) i) (hands_the_firmware (image_of c ts) i)
-    ∙ ap (λ (t : Bool). pick t (held (eqb (field 6 4 (image_of c ts)) (length (image_of c ts) + 16)) (named i) (dw_crc (image_of c ts) i) (image_in (image_of c ts))) (Not Error.NotDfuse)) (eq-eqb i.bcd_dfu 0x011A v)
-    ∙ ap₂ (λ (b : Bool) (q : Got Target). held b (named i) (dw_crc (image_of c ts) i) q) (reads_counted c ts) (reads_image c ts h)
+    ∙ ap (λ (t : Bool). pick t (held (eqb (field 6 4 (image_of c ts)) (length (image_of c ts) + 16)) x (image_in (image_of c ts))) (Err Error.NotDfuse)) (eq-eqb i.bcd_dfu 0x011A v)
+    ∙ ap₂ (λ (b : Bool) (q : Got Target). held b x q) (reads_counted c ts) (reads_image c ts h)
 
 -- AND NOTHING ELSE IS
-abbrev pub Paper : List ℕ → Held → Type 0
-Paper f (Holds c i crc ts) = (f ≡ dfuse_of c ts (ids_of i)) × Named ts × (i.dfu_version ≡ 0x011A) × (crc ≡ dw_crc (image_of c ts) (ids_of i))
-Paper f (Not r) = Unit
+abbrev pub Paper : List ℕ → Result Held Error → Type 0
+Paper f (Ok h) =
+    (f ≡ dfuse_of h.counted h.targets (ids_of h.identities)) × Named h.targets × (h.identities.dfu_version ≡ 0x011A) × (h.crc ≡ dw_crc (image_of h.counted h.targets) (ids_of h.identities))
+Paper f (Err r) = Unit
 
-module _ (f : List ℕ) (h : Bytes f) {i : Identities} {crc : ℕ} (e : suffix_of f ≡ Suffix.Read i crc) (v : i.dfu_version ≡ 0x011A) where
+module _ (f : List ℕ) (h : Bytes f) {x : Suffix} (e : suffix_of f ≡ Ok x) (v : x.identities.dfu_version ≡ 0x011A) where
   image : Bytes (firmware_of f)
   image = subst Bytes (part_is f e) (bytes_take (length f - 16) f h)
 
-  paper : (q : Got Target) → LaidImage (firmware_of f) q → Paper f (held (eqb (field 6 4 (firmware_of f)) (length (firmware_of f) + 16)) i crc q)
-  paper (Took ts) l = (
-    only_the_appendix f h e ∙ ap (λ (x : List ℕ). file_of x (ids_of i)) l.0,
+  paper : (q : Got Target) → LaidImage (firmware_of f) q → Paper f (held (eqb (field 6 4 (firmware_of f)) (length (firmware_of f) + 16)) x q)
+  paper (Ok ts) l = (
+    only_the_appendix f h e ∙ ap (λ (y : List ℕ). file_of y (ids_of x.identities)) l.0,
     l.1,
     v,
-    only_the_appendix_crc f h e ∙ ap (λ (x : List ℕ). dw_crc x (ids_of i)) l.0,
+    only_the_appendix_crc f h e ∙ ap (λ (y : List ℕ). dw_crc y (ids_of x.identities)) l.0,
   )
-  paper (No r) l = tt
+  paper (Err r) l = tt
 
-by_suffix_lem : (f : List ℕ) → Bytes f → (q : Suffix) → suffix_of f ≡ q → Paper f (by_suffix q (firmware_of f))
-by_suffix_lem f h Suffix.FileTooShort e = tt
-by_suffix_lem f h Suffix.NoSignature e = tt
-by_suffix_lem f h Suffix.WrongLength e = tt
-by_suffix_lem f h Suffix.WrongCrc e = tt
-by_suffix_lem f h (Suffix.Read i crc) e =
-    picked (Paper f) (eqb i.dfu_version 0x011A) _ _
-    (λ v. let w = eqb-true i.dfu_version 0x011A v in paper f h e w (image_in (firmware_of f)) (only_image (firmware_of f) (image f h e w)))
+by_suffix_lem : (f : List ℕ) → Bytes f → (q : Result Suffix suffix.Error) → suffix_of f ≡ q → Paper f (by_suffix q (firmware_of f))
+by_suffix_lem f h (Err r) e = tt
+by_suffix_lem f h (Ok x) e =
+    picked (Paper f) (eqb x.identities.dfu_version 0x011A) _ _
+    (λ v. let w = eqb-true x.identities.dfu_version 0x011A v in paper f h e w (image_in (firmware_of f)) (only_image (firmware_of f) (image f h e w)))
     (λ v. tt)
 
 pub only_the_paper : (f : List ℕ) → Bytes f → Paper f (dfuse_in f)
@@ -161,20 +156,12 @@ unfolding dfuse_in
 only_the_paper f h = by_suffix_lem f h (suffix_of f) refl
 
 -- IN ONE WAY: two lists that are laid out as the same file are the same
-abbrev targets : Held → List Target
-targets (Holds c i crc ts) = ts
-targets (Not r) = []
-
-abbrev flag : Held → Bool
-flag (Holds c i crc ts) = c
-flag (Not r) = false
-
-abbrev ids : Held → Ids
-ids (Holds c i crc ts) = ids_of i
-ids (Not r) = record { bcd_device = 0; id_product = 0; id_vendor = 0; bcd_dfu = 0 }
+abbrev in_file : Result Held Error → Bool × List Target × Ids
+in_file (Ok h) = (h.counted, h.targets, ids_of h.identities)
+in_file (Err r) = (false, [], record { bcd_device = 0; id_product = 0; id_vendor = 0; bcd_dfu = 0 })
 
 pub one_way : (c d : Bool) (ts us : List Target) (i j : Ids) → Named ts → Named us → i.bcd_dfu ≡ 0x011A → j.bcd_dfu ≡ 0x011A
     → dfuse_of c ts i ≡ dfuse_of d us j → (c ≡ d) × (ts ≡ us) × (i ≡ j)
 one_way c d ts us i j h k v w e =
-    let r = sym (reads_the_paper c ts i h v) ∙ ap dfuse_in e ∙ reads_the_paper d us j k w in
-    (ap flag r, ap targets r, ap ids r)
+    let r = ap in_file (sym (reads_the_paper c ts i h v) ∙ ap dfuse_in e ∙ reads_the_paper d us j k w) in
+    (ap (λ x. x.0) r, ap (λ x. x.1) r, ap (λ x. x.2) r)

@@ -1,39 +1,29 @@
--- The tests before the targets: a law for each way out. Assumes nothing.
-use Prim.Native.Nat.{ℕ, zero, suc, ◌+◌, ◌-◌, ◌<◌, ◌≤◌}
-use mathlib.Core.Path.{◌≡◌, refl, sym, ap, ap₂, ◌∙◌}
-use mathlib.Core.List.{List}
-use mathlib.Core.Bool.{Bool, true, false}
-use native.Mathlib.Omega.{arith}
-use lib.ListN.{length, take, drop, get_or}
-use lib.Seq.{length-take-le, get_or-take}
-use lib.Dec.{eqb, ltb}
-use borrow.Author.Tests.{lt-ltb, le-ltb, eq-eqb, ne_eqb}
+-- A file whose tests all pass: what the walk over its targets has kept is what the file holds. Assumes nothing.
+use Rattle.std.proofs.Common.{◌≡◌, ℕ, zero, suc, ◌+◌, ◌-◌, ◌≤◌, List, Bool, true, false, ◌⊎◌, ⊎_elim, eqb, ltb, length, take, drop, get_or, Result, Ok, Err, refl, sym, ap}
+use borrow.Author.Tests.{le-ltb, eq-eqb}
 use Rattle.ground.specs.Bytes.{field, prefix}
 use Rattle.ground.proofs.Tests.{picked}
 use Rattle.papers.specs.Um0391 as paper
 use Rattle.papers.specs.Um0391.{sz_target, sz_dfu_se}
-use Rattle.suffix.specs.declared.Identities.{Identities}
 use Rattle.suffix.specs.declared.Suffix.{Suffix}
-use Rattle.suffix.specs.Suffix.{suffix_of, firmware_of}
-use Rattle.suffix.proofs.Tested.{part_is}
-use Rattle.dfuse_file.specs.declared.Error.{Error}
+use Rattle.suffix.specs.declared.Checked.{Checked}
+use Rattle.suffix.specs.declared.Error as suffix
+use Rattle.suffix.specs.Suffix.{suffix_of, part_by, firmware_of, checked_by, checked_of}
 use Rattle.dfuse_file.specs.declared.walk.Tally.{Tally}
-use Rattle.dfuse_file.specs.declared.walk.Walked.{Walked}
 use Rattle.dfuse_file.specs.declared.walk.Survey.{Survey}
-use Rattle.dfuse_file.specs.Reading.{Got, Took, No, joined, fits, elements_in, targets_in, image_in, held, whole, by_suffix, dfuse_in}
-use Rattle.dfuse_file.specs.Walking.{between, fresh, walked_all, survey_of}
-use Rattle.dfuse_file.proofs.Stretch.{drop-take, prefix_part, field_part}
-use Rattle.dfuse_file.proofs.TargetWalk.{tally_of}
+use Rattle.dfuse_file.specs.Reading.{Got, joined, fits, elements_in, targets_in, image_in, held, whole, by_suffix, dfuse_in}
+use Rattle.dfuse_file.specs.Walking.{fresh, tallied_all, walked_all, survey_of}
+use Rattle.dfuse_file.proofs.Tallies.{all_seen, wanted_element, wanted_target}
 
 -- as many targets as were asked for
 abbrev Many : ℕ → Got paper.Target → Type 0
-Many n (Took ts) = length ts ≡ n
-Many n (No e) = Unit
+Many n (Ok ts) = length ts ≡ n
+Many n (Err e) = Unit
 
 more_many : (n : ℕ) (s : List ℕ) (g : Got paper.Element) (q : Got paper.Target) → Many n q → Many (suc n) (joined s g q)
-more_many n s (Took es) (Took ts) m = ap suc m
-more_many n s (Took es) (No e) m = tt
-more_many n s (No e) q m = tt
+more_many n s (Ok es) (Ok ts) m = ap suc m
+more_many n s (Ok es) (Err e) m = tt
+more_many n s (Err e) q m = tt
 
 many : (n at : ℕ) (s : List ℕ) → Many n (targets_in n at s)
 unfolding targets_in
@@ -46,87 +36,40 @@ many (suc n) at s =
     (many n (at + (274 + field 266 4 s)) (drop (274 + field 266 4 s) s))))
     (λ g. tt))
 
-module _ (wanted : ℕ) (c : Bool) (i : Identities) (crc : ℕ) where
-  fine : (n : ℕ) (g : Got paper.Target) (t : Tally) → Many n g → Walked.Fine t ≡ walked_all wanted 0 fresh 11 g
-      → Survey.Read n c i crc t ≡ survey_of wanted (held c i crc g)
-  fine n (Took ts) t m w = ap₂ (λ (k : ℕ) (x : Tally). Survey.Read k c i crc x) (sym m) (ap (λ (v : Walked). tally_of v t) w)
-  fine n (No e) t m w = absurd (let z : ◌≡◌ {A = ℕ} 0 1 = cc in omega arith)
+-- what the walk ends with, as the code has it
+abbrev pub surveyed : ℕ → Bool → Suffix → Tally → Survey
+surveyed n c x t =
+    record { dfuse = record { targets = n; elements = t.seen; counted = c; identities = x.identities; crc = x.crc }; element = t.element; target = t.target }
 
-  abbrev error-of : Walked → Error → Error
-  error-of (Walked.Fine x) e = e
-  error-of (Walked.Fault r) e = r
+module _ (wanted : ℕ) (c : Bool) (x : Suffix) where
+  kept : (n : ℕ) (g : Got paper.Target) (t : Tally) → Many n g → Ok t ≡ walked_all 0 (fresh wanted) 11 g → Ok (surveyed n c x t) ≡ survey_of wanted (held c x g)
+  kept n (Ok us) t m w =
+      let e : t ≡ tallied_all 0 (fresh wanted) 11 us = cc in
+      rw (e, all_seen wanted us, wanted_element wanted us, wanted_target wanted us, sym m)
+  kept n (Err e) t m w = absurd (cc)
 
-  faulty : (g : Got paper.Target) (e : Error) → Walked.Fault e ≡ walked_all wanted 0 fresh 11 g → Survey.Refused e ≡ survey_of wanted (held c i crc g)
-  faulty (Took ts) e w = absurd (let z : ◌≡◌ {A = ℕ} 0 1 = cc in omega arith)
-  faulty (No r) e w = ap (λ (v : Walked). Survey.Refused (error-of v e)) w
+-- where all tests before the targets pass
+pub accepted : (s : List ℕ) (x : Suffix) (wanted : ℕ) (t : Tally) → x.identities.dfu_version ≡ 0x011A → 11 ≤ length s → prefix sz_dfu_se s ≡ true → get_or s 5 0 ≡ 1
+    → fits (field 6 4 s) (length s) ≡ true → Ok t ≡ walked_all 0 (fresh wanted) 11 (targets_in (get_or s 10 0) 11 (drop 11 s))
+    → Ok (surveyed (get_or s 10 0) (eqb (field 6 4 s) (length s + 16)) x t) ≡ survey_of wanted (whole x s)
+unfolding image_in
+accepted s x wanted t v h g o z w =
+    simp (eq-eqb x.identities.dfu_version 0x011A v, le-ltb (length s) 11 h, g, eq-eqb (get_or s 5 0) 1 o, z)
+    (kept wanted (eqb (field 6 4 s) (length s + 16)) x (get_or s 10 0) (targets_in (get_or s 10 0) 11 (drop 11 s)) t (many (get_or s 10 0) 11 (drop 11 s)) w)
 
-module _ (f : List ℕ) (end : ℕ) (e : end + 16 ≡ length f) (wanted : ℕ) (i : Identities) (crc : ℕ) where
-  abbrev s : List ℕ
-  s = take end f
+-- the image that the suffix's reader hands over is what stands before the suffix
+pub before_suffix : (f : List ℕ) {c : Checked} → Ok c ≡ checked_of f → whole c.suffix (take c.firmware f) ≡ dfuse_in f
+unfolding dfuse_in firmware_of
+before_suffix f {c = c} = by (suffix_of f)
+  where
+    by : (r : Result Suffix suffix.Error) → Ok c ≡ checked_by r (length f) → whole c.suffix (take c.firmware f) ≡ by_suffix r (part_by r f)
+    by (Ok x) e = let q : c ≡ record { suffix = x; firmware = length f - 16 } = cc in rw q
+    by (Err r) e = absurd (cc)
 
-  abbrev answer : Survey
-  answer = survey_of wanted (whole i crc s)
-
-  long : length s ≡ end
-  long = length-take-le end f (omega (arith, e))
-
-  pub not_dfuse : (i.dfu_version ≡ 0x011A → ⊥) → Survey.Refused Error.NotDfuse ≡ answer
-  not_dfuse n = simp (ne_eqb i.dfu_version 0x011A n)
-
-  module _ (v : i.dfu_version ≡ 0x011A) where
-    pub too_short : end < 11 → Survey.Refused Error.ImageTooShort ≡ answer
-    unfolding image_in
-    too_short h = simp (eq-eqb i.dfu_version 0x011A v, long, lt-ltb end 11 h)
-
-    module _ (h : 11 ≤ end) where
-      signed : prefix sz_dfu_se s ≡ prefix sz_dfu_se f
-      signed = prefix_part sz_dfu_se end f (omega (arith, h))
-
-      pub no_prefix : prefix sz_dfu_se f ≡ false → Survey.Refused Error.NoPrefix ≡ answer
-      unfolding image_in
-      no_prefix n = simp (eq-eqb i.dfu_version 0x011A v, long, le-ltb end 11 h, signed, n)
-
-      module _ (g : prefix sz_dfu_se f ≡ true) where
-        fifth : get_or s 5 0 ≡ get_or f 5 0
-        fifth = get_or-take end f 5 0 (omega (arith, h))
-
-        pub wrong_version : (get_or f 5 0 ≡ 1 → ⊥) → Survey.Refused Error.WrongVersion ≡ answer
-        unfolding image_in
-        wrong_version n = simp (eq-eqb i.dfu_version 0x011A v, long, le-ltb end 11 h, signed, g, fifth, ne_eqb (get_or f 5 0) 1 n)
-
-        module _ (o : get_or f 5 0 ≡ 1) where
-          size_is : field 6 4 s ≡ field 6 4 f
-          size_is = field_part 6 end f (omega (arith, h))
-
-          pub wrong_size : fits (field 6 4 f) end ≡ false → Survey.Refused Error.WrongImageSize ≡ answer
-          unfolding image_in
-          wrong_size n = simp (eq-eqb i.dfu_version 0x011A v, long, le-ltb end 11 h, signed, g, fifth, eq-eqb (get_or f 5 0) 1 o, size_is, n)
-
-          module _ (z : fits (field 6 4 f) end ≡ true) where
-            abbrev targets : Got paper.Target
-            targets = targets_in (get_or f 10 0) 11 (between f 11 end)
-
-            tenth : get_or s 10 0 ≡ get_or f 10 0
-            tenth = get_or-take end f 10 0 (omega (arith, h))
-
-            opened : answer ≡ survey_of wanted (held (eqb (field 6 4 f) (length f)) i crc targets)
-            unfolding image_in
-            opened =
-                simp (eq-eqb i.dfu_version 0x011A v, long, le-ltb end 11 h, signed, g, fifth, eq-eqb (get_or f 5 0) 1 o, size_is, z, tenth, drop-take 11 end f)
-                (ap (λ (n : ℕ). survey_of wanted (held (eqb (field 6 4 f) n) i crc targets)) e)
-
-            pub refused : (r : Error) → Walked.Fault r ≡ walked_all wanted 0 fresh 11 targets → Survey.Refused r ≡ answer
-            refused r w = faulty wanted (eqb (field 6 4 f) (length f)) i crc targets r w ∙ sym opened
-
-            pub accepted : (t : Tally) → Walked.Fine t ≡ walked_all wanted 0 fresh 11 targets
-                → Survey.Read (get_or f 10 0) (eqb (field 6 4 f) (length f)) i crc t ≡ answer
-            accepted t w = fine wanted (eqb (field 6 4 f) (length f)) i crc (get_or f 10 0) targets t (many (get_or f 10 0) 11 (between f 11 end)) w ∙ sym opened
-
--- by what the suffix's reader says of a file
-pub by_suffix_lem : (f : List ℕ) (wanted : ℕ) {q : Suffix} → suffix_of f ≡ q → survey_of wanted (by_suffix q (firmware_of f)) ≡ survey_of wanted (dfuse_in f)
-unfolding dfuse_in
-by_suffix_lem f wanted e = ap (λ (q : Suffix). survey_of wanted (by_suffix q (firmware_of f))) (sym e)
-
-pub suffix_read : (f : List ℕ) (wanted : ℕ) {i : Identities} {crc : ℕ} → suffix_of f ≡ Suffix.Read i crc
-    → survey_of wanted (whole i crc (take (length f - 16) f)) ≡ survey_of wanted (dfuse_in f)
-suffix_read f wanted {i = i} {crc = crc} e = ap (λ (s : List ℕ). survey_of wanted (whole i crc s)) (part_is f e) ∙ by_suffix_lem f wanted e
+-- an image size is one of two
+pub fits_either : (size long : ℕ) → (size ≡ long) ⊎ (size ≡ long + 16) → fits size long ≡ true
+fits_either size long = ⊎_elim (λ e. simp (eq-eqb size long e)) (λ e. by (eqb size long) refl (eq-eqb size (long + 16) e))
+  where
+    by : (t : Bool) → eqb size long ≡ t → eqb size (long + 16) ≡ true → fits size long ≡ true
+    by true q e = simp q
+    by false q e = simp (q, e)

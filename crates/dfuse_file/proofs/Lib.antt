@@ -1,11 +1,10 @@
 pub mod Elements
 pub mod Targets
 pub mod File
-pub mod Stretch
 pub mod ElementWalk
 pub mod TargetWalk
-pub mod ImageWalk
 pub mod Tallies
+pub mod ImageWalk
 pub mod Cutting
 pub mod Data
 pub mod Pinned

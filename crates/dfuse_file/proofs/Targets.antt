@@ -1,12 +1,7 @@
 -- The targets before a suffix, read and laid out: one is the other's inverse. Assumes nothing.
-use Prim.Native.Nat.{ℕ, zero, suc, ◌+◌, ◌-◌, ◌≤◌}
-use mathlib.Core.Path.{◌≡◌, refl, sym, ap, ap₂, ◌∙◌}
-use mathlib.Core.List.{List, [], ◌∷◌, ◌++◌, append_assoc}
-use mathlib.Core.Bool.{true}
-use native.Mathlib.Omega.{arith}
-use lib.ListN.{length, take, drop, get_or, length-append, length-drop, take-append-drop}
-use lib.Seq.{length-take-le, take-append_seam, drop-append_seam, drop-drop, drop-cons, take_at, drop_at}
-use lib.Dec.{eqb, ltb}
+use Rattle.std.proofs.Common.{◌≡◌, ℕ, zero, suc, ◌+◌, ◌-◌, ◌≤◌, List, [], ◌∷◌, ◌++◌, true, eqb, ltb, length, take, drop, get_or, Ok, Err, refl, sym, ap, ap₂, ◌∙◌, arith, length-append, length-drop, append_assoc}
+use Rattle.std.proofs.Math.ListN.{take-append-drop}
+use Rattle.std.proofs.Math.Seq.{length-take-le, take-append_seam, drop-append_seam, drop-drop, drop-cons, take_at, drop_at}
 use borrow.Author.Tests.{le-ltb, ltb-false, eqb-true}
 use Rattle.ground.specs.Bytes.{field, prefix, Bytes}
 use Rattle.ground.proofs.Numbers.{bytes_drop, bytes_take}
@@ -15,7 +10,7 @@ use Rattle.ground.proofs.Tests.{picked}
 use Rattle.papers.specs.Suffix.{four}
 use Rattle.papers.proofs.Fours.{four_field, field_four, field_drop}
 use Rattle.papers.specs.Um0391.{Element, Target, elements_of, sz_target, target_of, targets_of, Named}
-use Rattle.dfuse_file.specs.Reading.{Got, Took, No, more, joined, elements_in, targets_in}
+use Rattle.dfuse_file.specs.Reading.{Got, more, joined, elements_in, targets_in}
 use Rattle.dfuse_file.proofs.Elements.{nothing, reads_elements, only_elements, Laid}
 
 -- WHAT IS LAID OUT IS READ ..
@@ -66,7 +61,7 @@ module _ (t : Target) (r : List ℕ) (named : length t.sz_target_name ≡ 255) w
       from_name_long : 274 ≤ length s
       from_name_long = omega (arith, ap length from_name, length-append t.sz_target_name rest, named)
 
-pub reads_targets : (ts : List Target) (at : ℕ) → Named ts → targets_in (length ts) at (targets_of ts) ≡ Took ts
+pub reads_targets : (ts : List Target) (at : ℕ) → Named ts → targets_in (length ts) at (targets_of ts) ≡ Ok ts
 unfolding targets_in targets_of
 reads_targets [] at h = refl
 reads_targets (t ∷ ts) at h =
@@ -88,8 +83,8 @@ reads_targets (t ∷ ts) at h =
 
 -- .. AND NOTHING ELSE IS
 abbrev pub LaidOut : ℕ → List ℕ → Got Target → Type 0
-LaidOut n s (Took ts) = (targets_of ts ≡ s) × (length ts ≡ n) × Named ts
-LaidOut n s (No r) = Unit
+LaidOut n s (Ok ts) = (targets_of ts ≡ s) × (length ts ≡ n) × Named ts
+LaidOut n s (Err r) = Unit
 
 -- the next bytes from a place on, and what is after them
 peel : (k n : ℕ) (s : List ℕ) → take n (drop k s) ++ drop (k + n) s ≡ drop k s
@@ -108,7 +103,7 @@ module _ (n : ℕ) (s : List ℕ) (h : Bytes s) (m : 274 ≤ length s) (k : fiel
       ap (λ (l : List ℕ). l ++ drop (i + 4) s) (ap four (field_drop i s) ∙ four_field (drop i s) (bytes_drop i s h) (omega (arith, m, length-drop i s)))
       ∙ peel i 4 s
 
-  module _ (es : List Element) (l : Laid (field 270 4 s) (take z (drop 274 s)) (Took es)) where
+  module _ (es : List Element) (l : Laid (field 270 4 s) (take z (drop 274 s)) (Ok es)) where
     size_is : length (elements_of es) ≡ z
     size_is = ap length l.0 ∙ length-take-le z (drop 274 s) (omega (arith, k, length-drop 274 s))
 
@@ -136,12 +131,12 @@ module _ (n : ℕ) (s : List ℕ) (h : Bytes s) (m : 274 ≤ length s) (k : fiel
 
     grows : (q : Got Target) → LaidOut n (drop (274 + z) s) q → LaidOut (suc n) s (more (one es) q)
     unfolding targets_of
-    grows (Took ts) o = (ap (λ (x : List ℕ). target_of (one es) ++ x) o.0 ∙ whole, ap suc o.1, (named, o.2))
-    grows (No r) o = tt
+    grows (Ok ts) o = (ap (λ (x : List ℕ). target_of (one es) ++ x) o.0 ∙ whole, ap suc o.1, (named, o.2))
+    grows (Err r) o = tt
 
   joins : (e : Got Element) (q : Got Target) → Laid (field 270 4 s) (take z (drop 274 s)) e → LaidOut n (drop (274 + z) s) q → LaidOut (suc n) s (joined s e q)
-  joins (Took es) q l o = grows es l q o
-  joins (No r) q l o = tt
+  joins (Ok es) q l o = grows es l q o
+  joins (Err r) q l o = tt
 
 pub only_targets : (n at : ℕ) (s : List ℕ) → Bytes s → LaidOut n s (targets_in n at s)
 unfolding targets_in targets_of

@@ -1,14 +1,13 @@
 -- The elements and the targets of a file as parts of it, in the file's order.
-use Rattle.std.specs.Prelude.{ℕ, ◌+◌, List, [], ◌∷◌, ◌++◌, length, take, drop, ◌==◌, nat_lt, slice_index_or}
+use Rattle.std.specs.Prelude.{ℕ, ◌+◌, List, [], ◌∷◌, ◌++◌, length, take, drop, ◌==◌, slice_get, Option, Some, None, Result, Ok, Err}
 use Rattle.ground.specs.Pick.{pick}
 use Rattle.papers.specs.Um0391 as paper
 use Rattle.papers.specs.Um0391.{elements_of}
 use Rattle.dfuse_file.specs.declared.Element.{Element}
 use Rattle.dfuse_file.specs.declared.Target.{Target}
-use Rattle.dfuse_file.specs.declared.OneElement.{OneElement}
-use Rattle.dfuse_file.specs.declared.OneTarget.{OneTarget}
 use Rattle.dfuse_file.specs.declared.Dfuse.{Dfuse}
-use Rattle.dfuse_file.specs.Reading.{Held, Holds, Not, dfuse_in}
+use Rattle.dfuse_file.specs.declared.error.Error.{Error}
+use Rattle.dfuse_file.specs.Reading.{Held, dfuse_in}
 
 -- an element whose header begins at a place, in a target with an index and a setting
 abbrev pub placed : ℕ → ℕ → ℕ → paper.Element → Element
@@ -35,42 +34,33 @@ placed_targets first at (t ∷ ts) =
     placed_target first at t ∷ placed_targets (first + length t.elements) (at + (274 + length (elements_of t.elements))) ts
 
 -- of a file: the first target begins after the prefix of 11 bytes; a file that is refused has none
-abbrev pub elements_held : Held → List Element
-elements_held (Holds counted i crc ts) = placed_all 0 11 ts
-elements_held (Not e) = []
+abbrev pub elements_held : Result Held Error → List Element
+elements_held (Ok h) = placed_all 0 11 h.targets
+elements_held (Err e) = []
 
-abbrev pub targets_held : Held → List Target
-targets_held (Holds counted i crc ts) = placed_targets 0 11 ts
-targets_held (Not e) = []
+abbrev pub targets_held : Result Held Error → List Target
+targets_held (Ok h) = placed_targets 0 11 h.targets
+targets_held (Err e) = []
 
 -- what the reader answers
-abbrev pub read_of : Held → Dfuse
-read_of (Holds counted i crc ts) = Dfuse.Read (length ts) (length (placed_all 0 11 ts)) counted i crc
-read_of (Not e) = Dfuse.Refused e
+abbrev pub summed : Held → Dfuse
+summed h = record { targets = length h.targets; elements = length (placed_all 0 11 h.targets); counted = h.counted; identities = h.identities; crc = h.crc }
 
--- an index in a list, and what stands there
-abbrev pub blank_element : Element
-blank_element = record { target = 0; setting = 0; address = 0; place = 0; size = 0 }
+abbrev pub read_of : Result Held Error → Result Dfuse Error
+read_of (Ok h) = Ok (summed h)
+read_of (Err e) = Err e
 
-abbrev pub one_element : ℕ → List Element → OneElement
-one_element i es = pick (nat_lt i (length es)) (OneElement.Found (slice_index_or es i blank_element)) OneElement.Nothing
+-- what stands at an index of a list
+unfoldable pub element_at : ℕ → List ℕ → Option Element
+element_at i f = slice_get (elements_held (dfuse_in f)) i
 
-unfoldable pub element_at : ℕ → List ℕ → OneElement
-element_at i f = one_element i (elements_held (dfuse_in f))
-
-abbrev pub blank_target : Target
-blank_target = record { setting = 0; named = 0; elements = 0; first = 0; place = 0 }
-
-abbrev pub one_target : ℕ → List Target → OneTarget
-one_target i ts = pick (nat_lt i (length ts)) (OneTarget.Found (slice_index_or ts i blank_target)) OneTarget.Nothing
-
-unfoldable pub target_at : ℕ → List ℕ → OneTarget
-target_at i f = one_target i (targets_held (dfuse_in f))
+unfoldable pub target_at : ℕ → List ℕ → Option Target
+target_at i f = slice_get (targets_held (dfuse_in f)) i
 
 -- the bytes of an element; none where there is no element
-abbrev pub part_of : List ℕ → OneElement → List ℕ
-part_of f (OneElement.Found e) = take e.size (drop e.place f)
-part_of f OneElement.Nothing = []
+abbrev pub part_of : List ℕ → Option Element → List ℕ
+part_of f (Some e) = take e.size (drop e.place f)
+part_of f None = []
 
 unfoldable pub part_at : ℕ → List ℕ → List ℕ
 part_at i f = part_of f (element_at i f)
@@ -80,9 +70,9 @@ unfoldable pub name_in : List ℕ → List ℕ
 name_in [] = []
 name_in (b ∷ bs) = pick (b == 0) [] (b ∷ name_in bs)
 
-abbrev pub name_of : List ℕ → OneTarget → List ℕ
-name_of f (OneTarget.Found t) = name_in (take 255 (drop t.place f))
-name_of f OneTarget.Nothing = []
+abbrev pub name_of : List ℕ → Option Target → List ℕ
+name_of f (Some t) = name_in (take 255 (drop t.place f))
+name_of f None = []
 
 unfoldable pub name_at : ℕ → List ℕ → List ℕ
 name_at i f = name_of f (target_at i f)

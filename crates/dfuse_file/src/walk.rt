@@ -1,280 +1,245 @@
 // One walk over a file: it makes every test in order, and keeps the element and the target with the wanted index on its way.
-ghost use Rattle.std.specs.Prelude.{◌≡◌, ◌+◌, ◌-◌, ◌<◌, ◌≤◌, length, take};
-ghost use Rattle.dfuse_file.specs.Reading.{fits, whole, dfuse_in, targets_in};
-ghost use Rattle.dfuse_file.specs.Walking.{between, met_of, came_of, target_in, head_in, walked_in, walked_all, fresh, survey_of};
+ghost use Rattle.std.specs.Prelude.{◌≡◌, ◌+◌, ◌-◌, ◌^◌, ◌<◌, ◌≤◌, length, take, drop, IfOk};
+ghost use Rattle.dfuse_file.specs.Reading.{whole, dfuse_in, elements_in, targets_in};
+ghost use Rattle.dfuse_file.specs.Walking.{fresh, met_of, came_of, target_in, head_in, size_in, walked_of, walked_all, survey_of};
 
-use crate::{Element, Error, Target};
-use suffix::{Identities, Suffix};
+use crate::{Dfuse, Element, Error, Target};
+use suffix::{LENGTH, Suffix, word_at};
+
+// What the walk over a whole file ends with: what the file is, and the element and the target with the wanted index, if there are so many.
+#[derive(Clone, Copy)]
+pub struct Survey {
+    pub dfuse: Dfuse,
+    pub element: Option<Element>,
+    pub target: Option<Target>,
+}
 
 // How far the walk has come: how many elements it has met, and of these and the targets the wanted ones.
 #[derive(Clone, Copy)]
-pub struct Tally {
-    pub seen: usize,
-    pub element: Element,
-    pub target: Target,
-}
-
-// What a walk over elements or targets ends with.
-#[derive(Clone, Copy)]
-pub enum Walked {
-    Fine(Tally),
-    Fault(Error),
-}
-
-// How many bytes a target's elements take, or why there is no target.
-#[derive(Clone, Copy)]
-pub enum Head {
-    Size(u32),
-    Fault(Error),
-}
-
-// What the walk over a whole file ends with.
-#[derive(Clone, Copy)]
-pub enum Survey {
-    Read {
-        targets: u8,
-        counted: bool,
-        identities: Identities,
-        crc: u32,
-        tally: Tally,
-    },
-    Refused(Error),
-}
-
-// Nothing met yet.
-fn unmet() -> Tally
-    ensures { result ≡ fresh }
-{
-    let element = Element {
-        target: 0,
-        setting: 0,
-        address: 0,
-        place: 0,
-        size: 0,
-    };
-    let target = Target {
-        setting: 0,
-        named: 0,
-        elements: 0,
-        first: 0,
-        place: 0,
-    };
-    Tally {
-        seen: 0,
-        element,
-        target,
-    }
-}
-
-// One element met: it is kept if it is the wanted one.
-fn met(t: Tally, wanted: usize, e: Element) -> Tally
-    requires { t.seen < 18446744073709551615 }
-    ensures { result ≡ met_of t wanted e }
-{
-    let seen = t.seen;
-    let kept = t.element;
-    let target = t.target;
-    if seen == wanted {
-        Tally {
-            seen: seen + 1,
-            element: e,
-            target,
-        }
-    } else {
-        Tally {
-            seen: seen + 1,
-            element: kept,
-            target,
-        }
-    }
-}
-
-// One target come to: it is kept if it is the wanted one.
-fn came(file: &[u8], at: usize, index: u8, wanted: usize, t: Tally) -> Tally
-    requires { at + 274 ≤ length file.now }
-    ensures { result ≡ came_of t wanted index (target_in file.now at t.seen) }
-{
-    let seen = t.seen;
-    let element = t.element;
-    if index as usize != wanted {
-        return t;
-    }
-    let target = Target {
-        setting: file[at + 6],
-        named: suffix::word_at(file, at + 7),
-        elements: suffix::word_at(file, at + 270),
-        first: seen,
-        place: at + 11,
-    };
-    Tally {
-        seen,
-        element,
-        target,
-    }
-}
-
-// The prefix of a target at a place, of which no byte is at `end` or after it.
-fn target_head(file: &[u8], at: usize, end: usize) -> Head
-    requires start_le_end { at ≤ end }
-    requires end_in_bounds { end ≤ length file.now }
-    ensures { result ≡ head_in at (between file.now at end) }
-{
-    if end - at < 274 {
-        return Head::Fault(Error::TargetTooShort { at });
-    }
-    if !ground::starts_with(&file[at..], b"Target") {
-        return Head::Fault(Error::NoTarget { at });
-    }
-    let size = suffix::word_at(file, at + 266);
-    if end - at - 274 < size as usize {
-        return Head::Fault(Error::TargetTooLong { at });
-    }
-    Head::Size(size)
-}
-
-// The elements of the target whose prefix begins at a place and whose last byte is before `end`.
-fn walk_elements(
-    file: &[u8],
-    target: u8,
-    at: usize,
-    end: usize,
+struct Tally {
     wanted: usize,
-    tally: Tally,
-) -> Walked
-    requires prefix_in_bounds { at + 274 ≤ end }
-    requires end_in_bounds { end ≤ length file.now }
-    requires seen_le_at { tally.seen ≤ at }
-    ensures { result ≡ walked_in file.now target at end wanted tally }
-{
-    let setting = file[at + 6];
-    let mut p = at + 274;
-    let mut k = suffix::word_at(file, at + 270);
-    let mut t = tally;
-    while 0 < k {
-        if end - p < 8 {
-            return Walked::Fault(Error::ElementTooShort { at: p });
-        }
-        let size = suffix::word_at(file, p + 4);
-        if end - p - 8 < size as usize {
-            return Walked::Fault(Error::ElementTooLong { at: p });
-        }
-        let address = suffix::word_at(file, p);
-        let place = p + 8;
-        t = met(
-            t,
+    seen: usize,
+    element: Option<Element>,
+    target: Option<Target>,
+}
+
+impl Tally {
+    // Nothing met yet.
+    fn new(wanted: usize) -> Tally
+        ensures { result ≡ fresh wanted }
+    {
+        Tally {
             wanted,
-            Element {
-                target,
-                setting,
-                address,
-                place,
-                size,
-            },
-        );
-        p += 8 + (size as usize);
-        k -= 1;
-    }
-    if p != end {
-        return Walked::Fault(Error::TargetNotFilled { at: p });
-    }
-    Walked::Fine(t)
-}
-
-// The n targets of an image that ends at a place.
-fn walk_targets(file: &[u8], n: u8, end: usize, wanted: usize) -> Walked
-    requires prefix_in_bounds { 11 ≤ end }
-    requires end_in_bounds { end ≤ length file.now }
-    ensures { result ≡ walked_all wanted 0 fresh 11 (targets_in n 11 (between file.now 11 end)) }
-{
-    let mut p: usize = 11;
-    let mut j: u8 = 0;
-    let mut t = unmet();
-    while j < n {
-        let head = target_head(file, p, end);
-        match head {
-            Head::Fault(error) => {
-                return Walked::Fault(error);
-            }
-            Head::Size(size) => {
-                let next = p + (274 + size as usize);
-                let walked = walk_elements(file, j, p, next, wanted, came(file, p, j, wanted, t));
-                match walked {
-                    Walked::Fault(error) => {
-                        return Walked::Fault(error);
-                    }
-                    Walked::Fine(x) => {
-                        t = x;
-                    }
-                }
-                p = next;
-            }
+            seen: 0,
+            element: None,
+            target: None,
         }
-        j += 1;
     }
-    if p != end {
-        return Walked::Fault(Error::ImageNotFilled { at: p });
+
+    // One element met: it is kept if it is the wanted one.
+    fn meet(self, e: Element) -> Tally
+        requires { self.seen < usize.MAX }
+        ensures { result ≡ met_of self e }
+    {
+        let element = if self.seen == self.wanted {
+            Some(e)
+        } else {
+            self.element
+        };
+        Tally {
+            seen: self.seen + 1,
+            element,
+            ..self
+        }
     }
-    Walked::Fine(t)
+
+    // One target come to: it is kept if it is the wanted one.
+    fn come_to(self, index: u8, u: Target) -> Tally
+        ensures { result ≡ came_of self index u }
+    {
+        let target = if usize::from(index) == self.wanted {
+            Some(u)
+        } else {
+            self.target
+        };
+        Tally { target, ..self }
+    }
 }
 
-// Whether an image size is that of a file, without its suffix or with it.
-fn is_size(size: u32, end: usize, len: usize) -> bool
-    requires { end + 16 ≡ len }
-    ensures { result ≡ fits size end }
-{
-    let n = size as usize;
-    if n == end {
-        return true;
-    }
-    n == len
+// What is left of an image or a target: where in the file it begins, and its bytes.
+#[derive(Clone, Copy)]
+struct Rest<'a> {
+    at: usize,
+    bytes: &'a [u8],
+    ghost ends: { at + length bytes.now < 2 ^ 64 },
 }
 
-// The image that ends at a place, where the suffix begins.
-fn image(file: &[u8], end: usize, wanted: usize, identities: Identities, crc: u32) -> Survey
-    requires { end + 16 ≡ length file.now }
-    ensures { result ≡ survey_of wanted (whole identities crc (take end file.now)) }
+impl<'a> Rest<'a> {
+    // What is left after n bytes more.
+    fn after(self, n: usize) -> Rest<'a>
+        requires { n ≤ length self.bytes.now }
+        ensures at { result.at ≡ self.entry.at + n }
+        ensures bytes { result.bytes.now ≡ drop n self.entry.bytes.now }
+    {
+        let bytes = self.bytes;
+        Rest {
+            at: self.at + n,
+            bytes: &bytes[n..],
+        }
+    }
+
+    // The first n bytes of it.
+    fn up_to(self, n: usize) -> Rest<'a>
+        requires { n ≤ length self.bytes.now }
+        ensures at { result.at ≡ self.entry.at }
+        ensures bytes { result.bytes.now ≡ take n self.entry.bytes.now }
+    {
+        let bytes = self.bytes;
+        Rest {
+            at: self.at,
+            bytes: &bytes[..n],
+        }
+    }
+
+    // How many bytes the elements of the target take whose prefix begins here.
+    fn target_size(self) -> Result<u32, Error>
+        ensures { result ≡ head_in self.entry.at self.entry.bytes.now }
+    {
+        let at = self.at;
+        let Some(left) = self.bytes.len().checked_sub(274) else {
+            return Err(Error::TargetTooShort { at });
+        };
+        if !ground::starts_with(self.bytes, b"Target") {
+            return Err(Error::NoTarget { at });
+        }
+        let size = word_at(self.bytes, 266);
+        if left < size as usize {
+            return Err(Error::TargetTooLong { at });
+        }
+        Ok(size)
+    }
+
+    // The target whose prefix begins here, of which so many elements stand before its own.
+    fn target(self, first: usize) -> Target
+        requires { 274 ≤ length self.bytes.now }
+        ensures { result ≡ target_in first self.entry.at self.entry.bytes.now }
+    {
+        Target {
+            setting: self.bytes[6],
+            named: word_at(self.bytes, 7),
+            elements: word_at(self.bytes, 270),
+            first,
+            place: self.at + 11,
+        }
+    }
+
+    // How many bytes of data the element has whose header begins here. Not one function with `target_size`: each has errors of its own.
+    fn element_size(self) -> Result<u32, Error>
+        ensures { result ≡ size_in self.entry.at self.entry.bytes.now }
+    {
+        let at = self.at;
+        let Some(left) = self.bytes.len().checked_sub(8) else {
+            return Err(Error::ElementTooShort { at });
+        };
+        let size = word_at(self.bytes, 4);
+        if left < size as usize {
+            return Err(Error::ElementTooLong { at });
+        }
+        Ok(size)
+    }
+}
+
+// The elements of a target, which begin after its prefix.
+fn walk_elements(elements: Rest, index: u8, target: Target, tally: Tally) -> Result<Tally, Error>
+    requires { tally.seen ≤ elements.at }
+    ensures walked { result ≡ walked_of index target.setting tally elements.entry.at (elements_in target.elements elements.entry.at elements.entry.bytes.now) }
+    ensures bounded { IfOk result (λ t. t.seen ≤ elements.entry.at + length elements.entry.bytes.now) }
 {
-    if identities.dfu_version != 0x011a {
-        return Survey::Refused(Error::NotDfuse);
+    let mut rest = elements;
+    let mut tally = tally;
+    for _ in 0..target.elements {
+        let size = rest.element_size()?;
+        tally = tally.meet(Element {
+            target: index,
+            setting: target.setting,
+            address: word_at(rest.bytes, 0),
+            place: rest.at + 8,
+            size,
+        });
+        rest = rest.after(8 + size as usize);
     }
-    if end < 11 {
-        return Survey::Refused(Error::ImageTooShort);
+    if !rest.bytes.is_empty() {
+        return Err(Error::TargetNotFilled { at: rest.at });
     }
-    if !ground::starts_with(file, b"DfuSe") {
-        return Survey::Refused(Error::NoPrefix);
+    Ok(tally)
+}
+
+// The n targets of an image, which begin after its prefix.
+fn walk_targets(targets: Rest, n: u8, wanted: usize) -> Result<Tally, Error>
+    ensures { result ≡ walked_all 0 (fresh wanted) targets.entry.at (targets_in n targets.entry.at targets.entry.bytes.now) }
+{
+    let mut rest = targets;
+    let mut tally = Tally::new(wanted);
+    for index in 0..n {
+        let size = rest.target_size()? as usize;
+        let target = rest.target(tally.seen);
+        let elements = rest.after(274).up_to(size);
+        tally = walk_elements(elements, index, target, tally.come_to(index, target))?;
+        rest = rest.after(274 + size);
     }
-    if file[5] != 1 {
-        return Survey::Refused(Error::WrongVersion);
+    if !rest.bytes.is_empty() {
+        return Err(Error::ImageNotFilled { at: rest.at });
     }
-    let size = suffix::word_at(file, 6);
-    if !is_size(size, end, file.len()) {
-        return Survey::Refused(Error::WrongImageSize);
+    Ok(tally)
+}
+
+// The image before a suffix.
+#[tactic(auto, unfolding(crate::specs::Reading::image_in))]
+fn image(image: &[u8], suffix: Suffix, wanted: usize) -> Result<Survey, Error>
+    requires { length image.now + 16 < 2 ^ 64 }
+    ensures { result ≡ survey_of wanted (whole suffix image.now) }
+{
+    if suffix.identities.dfu_version != 0x011a {
+        return Err(Error::NotDfuse);
     }
-    let counted = size as usize == file.len();
-    let targets = file[10];
-    let walked = walk_targets(file, targets, end, wanted);
-    match walked {
-        Walked::Fault(error) => Survey::Refused(error),
-        Walked::Fine(tally) => Survey::Read {
+    if image.len() < 11 {
+        return Err(Error::ImageTooShort);
+    }
+    if !ground::starts_with(image, b"DfuSe") {
+        return Err(Error::NoPrefix);
+    }
+    if image[5] != 1 {
+        return Err(Error::WrongVersion);
+    }
+    let size = word_at(image, 6) as usize;
+    let counted = size == image.len() + LENGTH;
+    if size != image.len() && !counted {
+        return Err(Error::WrongImageSize);
+    }
+    let targets = image[10];
+    let rest = Rest {
+        at: 11,
+        bytes: &image[11..],
+    };
+    let tally = walk_targets(rest, targets, wanted)?;
+    Ok(Survey {
+        dfuse: Dfuse {
             targets,
+            elements: tally.seen,
             counted,
-            identities,
-            crc,
-            tally,
+            identities: suffix.identities,
+            crc: suffix.crc,
         },
-    }
+        element: tally.element,
+        target: tally.target,
+    })
 }
 
 // A whole file: the suffix's reader first.
-pub fn check(file: &[u8], wanted: usize) -> Survey
+#[tactic(auto, unfolding(crate::specs::Reading::dfuse_in))]
+pub fn check(file: &[u8], wanted: usize) -> Result<Survey, Error>
     ensures { result ≡ survey_of wanted (dfuse_in file.now) }
 {
-    let suffix = Suffix::read(file);
-    match suffix {
-        Suffix::FileTooShort => Survey::Refused(Error::FileTooShort),
-        Suffix::NoSignature => Survey::Refused(Error::NoSignature),
-        Suffix::WrongLength => Survey::Refused(Error::WrongLength),
-        Suffix::WrongCrc => Survey::Refused(Error::WrongCrc),
-        Suffix::Read { identities, crc } => image(file, file.len() - 16, wanted, identities, crc),
-    }
+    let checked = Suffix::check(file)?;
+    image(&file[..checked.firmware], checked.suffix, wanted)
 }

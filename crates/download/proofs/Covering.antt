@@ -1,9 +1,6 @@
 -- Laws of `covering`: how the recursion on the pages' tail goes. Assumes nothing.
-use Prim.Native.Nat.{ℕ, zero, suc, ◌+◌, ◌-◌, ◌<◌, ◌≤◌, zero-le, suc-le-suc}
-use mathlib.Core.Path.{◌≡◌, refl, ap, ◌∙◌}
-use mathlib.Core.List.{List, [], ◌∷◌}
-use native.Mathlib.Omega.{arith}
-use lib.ListN.{length, take, drop, get_or, length-drop}
+use Rattle.std.proofs.Common.{◌≡◌, ℕ, zero, suc, ◌+◌, ◌-◌, ◌<◌, ◌≤◌, List, [], ◌∷◌, length, get_or, take, drop, refl, ap, ◌∙◌, arith}
+use Prim.Native.Nat.{zero-le, suc-le-suc}
 use Rattle.ground.proofs.Lists.{onwards}
 use Rattle.download.specs.Download.{covering}
 
@@ -18,7 +15,7 @@ unfolding covering
 no_page n [] e = refl
 no_page n (p ∷ ps) e = absurd (omega arith)
 
--- the first page, and then those covering what is left, among the tail `&pages[1..]`
+-- the first page, and then those covering what is left, among the tail
 pub step : (n : ℕ) (ps : List ℕ) → (n ≡ 0 → ⊥) → 0 < length ps
     → 1 + length (covering (n - get_or ps 0 0) (take (length ps - 1) (drop 1 ps))) ≡ length (covering n ps)
 unfolding covering
@@ -31,6 +28,3 @@ unfolding covering
 bounded n [] = zero-le
 bounded zero (p ∷ ps) = zero-le
 bounded (suc n) (p ∷ ps) = suc-le-suc (bounded (suc n - p) ps)
-
-pub shorter : (ps : List ℕ) → 0 < length ps → length (take (length ps - 1) (drop 1 ps)) < length ps
-shorter ps h = rw (onwards 1 ps) (omega (arith, length-drop 1 ps))

@@ -1,3 +1,2 @@
 pub mod Covering
-pub mod Wishes
 pub mod Pinned

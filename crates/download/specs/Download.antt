@@ -1,5 +1,5 @@
 -- The download as work: document 01, 'One session, step by step'.
-use Rattle.std.specs.Prelude.{ℕ, zero, suc, ◌+◌, ◌-◌, List, [], ◌∷◌, length, nat_lt, slice_index}
+use Rattle.std.specs.Prelude.{ℕ, zero, suc, ◌+◌, ◌-◌, List, [], ◌∷◌, length, nat_lt, slice_index, Result, Ok, Err}
 use Rattle.ground.specs.Pick.{pick}
 use Rattle.wire.specs.declared.Command.{Command}
 use Rattle.work.specs.declared.End.{End}
@@ -21,15 +21,15 @@ abbrev pub passed : Progress → ℕ → Progress
 passed pr p = record { stage = Stage.Erasing; erased = pr.erased + p; page = pr.page + 1; accepted = pr.accepted }
 
 -- while the erased position is below the target's end: no page left is 5, position plus page at 2^32 or more is 4, else erase; then set the address
-unfoldable pub erase_next : List ℕ → Setup → Progress → Todo
+unfoldable pub erase_next : List ℕ → Setup → Progress → Result Todo Error
 erase_next ps su pr =
     pick (nat_lt pr.erased (end_of su))
     (pick (nat_lt pr.page (length ps))
     (pick (nat_lt (pr.erased + slice_index ps pr.page) limit)
-    (Todo.Send (Command.Erase pr.erased) (passed pr (slice_index ps pr.page)))
-    (Todo.Refuse Error.EraseLimitReached))
-    (Todo.Refuse Error.NoSpaceLeft))
-    (Todo.Send (Command.SetAddress su.address) (staged Stage.Writing pr))
+    (Ok (Todo.Send (Command.Erase pr.erased) (passed pr (slice_index ps pr.page))))
+    (Err Error.EraseLimitReached))
+    (Err Error.NoSpaceLeft))
+    (Ok (Todo.Send (Command.SetAddress su.address) (staged Stage.Writing pr)))
 
 -- the next unaccepted bytes; the ledger waits for their count; with nothing left, one empty block
 unfoldable pub write_next : Setup → Progress → Todo
@@ -42,12 +42,12 @@ write_next su pr =
 abbrev pub end_for : Setup → End
 end_for su = pick su.tolerant End.Stays (pick su.detach End.Stays End.Reset)
 
-abbrev pub next_at : Stage → List ℕ → Setup → Progress → Todo
+abbrev pub next_at : Stage → List ℕ → Setup → Progress → Result Todo Error
 next_at Stage.Erasing ps su pr = erase_next ps su pr
-next_at Stage.Writing ps su pr = write_next su pr
-next_at Stage.Ending ps su pr = Todo.End (end_for su)
+next_at Stage.Writing ps su pr = Ok (write_next su pr)
+next_at Stage.Ending ps su pr = Ok (Todo.End (end_for su))
 
-unfoldable pub next_of : List ℕ → Setup → Progress → Todo
+unfoldable pub next_of : List ℕ → Setup → Progress → Result Todo Error
 next_of ps su pr = next_at pr.stage ps su pr
 
 -- only a block that was taken moves anything: its bytes are entered

@@ -11,7 +11,7 @@ use Rattle.ground.specs.Bytes.{little_endian_value, field}
 use Rattle.papers.specs.Descriptor.{Functional, weigh, bytes_of}
 use Rattle.functional_descriptor.specs.declared.FunctionalDescriptor.{FunctionalDescriptor}
 use Rattle.functional_descriptor.specs.Descriptor.{flag, descriptor_of}
-use Rattle.functional_descriptor.specs.declared.Descriptor.{Descriptor}
+use Rattle.std.specs.Prelude.{Some, Ok}
 
 -- the table's fields under the Rust's names
 abbrev pub named : Functional → FunctionalDescriptor
@@ -61,7 +61,7 @@ module _ (a b c d : Bool) (r : ℕ) where
 pair : (n : ℕ) → (0 * 256 + n / 256) * 256 + n % 256 ≡ n
 pair n = omega arith
 
-pub reads_the_table : (d : Functional) (more : List ℕ) → descriptor_of (bytes_of d ++ more) ≡ Descriptor.Read (named d)
+pub reads_the_table : (d : Functional) (more : List ℕ) → descriptor_of (bytes_of d ++ more) ≡ Some (Ok (named d))
 unfolding field little_endian_value sum
 reads_the_table d more =
     let f = flags d.bit_can_dnload d.bit_can_upload d.bit_manifestation_tolerant d.bit_will_detach d.reserved in

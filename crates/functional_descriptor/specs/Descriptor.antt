@@ -1,10 +1,10 @@
 -- What bytes are as a functional descriptor: document 01, 'Descriptor and reply'.
-use Rattle.std.specs.Prelude.{ℕ, ◌/◌, ◌%◌, List, [], ◌∷◌, Bool, length, ◌==◌, nat_lt, slice_index}
+use Rattle.std.specs.Prelude.{ℕ, ◌/◌, ◌%◌, List, [], ◌∷◌, Bool, length, ◌==◌, nat_lt, slice_index, Option, Some, None, Result, Ok, Err}
 use Rattle.ground.specs.Pick.{pick}
-use Rattle.ground.specs.Said.{Said, says}
+use Rattle.ground.specs.Said.{Said, says, said_result, said_option}
 use Rattle.ground.specs.Bytes.{field}
 use Rattle.functional_descriptor.specs.declared.FunctionalDescriptor.{FunctionalDescriptor}
-use Rattle.functional_descriptor.specs.declared.Descriptor.{Descriptor}
+use Rattle.functional_descriptor.specs.declared.Error.{Error}
 
 -- whether the bit of a weight is set
 abbrev pub flag : ℕ → ℕ → Bool
@@ -23,21 +23,19 @@ fields_of bs = record {
 }
 
 -- fewer than 2 bytes, or byte 1 not 0x21: not one; then fewer than 9: too short
-abbrev pub descriptor_of : List ℕ → Descriptor
+abbrev pub descriptor_of : List ℕ → Option (Result FunctionalDescriptor Error)
 descriptor_of bs =
-    pick (nat_lt (length bs) 2) Descriptor.NotOne
+    pick (nat_lt (length bs) 2) None
     (pick (slice_index bs 1 == 0x21)
-    (pick (nat_lt (length bs) 9) (Descriptor.DataTooShort (length bs)) (Descriptor.Read (fields_of bs)))
-    Descriptor.NotOne)
+    (pick (nat_lt (length bs) 9) (Some (Err (Error.DataTooShort (length bs)))) (Some (Ok (fields_of bs))))
+    None)
 
 abbrev pub bit_of : Bool → ℕ
 bit_of b = pick b 1 0
 
 -- document 01's number and values for each answer
-abbrev pub said_of : Descriptor → Said
-said_of Descriptor.NotOne = says 0 []
-said_of (Descriptor.DataTooShort got) = says 14 (got ∷ [])
-said_of (Descriptor.Read d) =
+abbrev pub said_fields : FunctionalDescriptor → Said
+said_fields d =
     says 0
     (bit_of d.can_download
     ∷ bit_of d.can_upload
@@ -48,3 +46,9 @@ said_of (Descriptor.Read d) =
     ∷ d.dfu_version.0
     ∷ d.dfu_version.1
     ∷ [])
+
+abbrev pub said_error : Error → Said
+said_error (Error.DataTooShort got) = says 14 (got ∷ [])
+
+abbrev pub said_of : Option (Result FunctionalDescriptor Error) → Said
+said_of = said_option (said_result said_fields said_error)

@@ -2,13 +2,13 @@
 #![tactic(auto)]
 
 ghost use Rattle.std.specs.Prelude.{◌≡◌, ◌<◌, length};
-ghost use Rattle.functional_descriptor.specs.Descriptor.{flag, fields_of, descriptor_of, bit_of, said_of};
-ghost use Rattle.ground.specs.Said.{report_of};
+ghost use Rattle.functional_descriptor.specs.Descriptor.{flag, fields_of, descriptor_of, said_fields, said_error};
 
-use ground::{Report, Version};
+use ground::{Answer, Report, Version};
+use std::fmt;
 
 // What a device says of itself.
-#[derive(Clone, Copy)]
+#[derive(Clone, Copy, Debug, PartialEq, Eq)]
 pub struct FunctionalDescriptor {
     // bitCanDnload
     pub can_download: bool,
@@ -26,14 +26,11 @@ pub struct FunctionalDescriptor {
     pub dfu_version: Version,
 }
 
-// What bytes are as a functional descriptor.
-#[derive(Clone, Copy)]
-pub enum Descriptor {
-    // Another descriptor, or none.
-    NotOne,
-    // Refusal 14: a functional descriptor of fewer than 9 bytes.
+// Why a functional descriptor is refused.
+#[derive(Clone, Copy, Debug, PartialEq, Eq)]
+pub enum Error {
+    // Refusal 14: fewer than 9 bytes
     DataTooShort { got: usize },
-    Read(FunctionalDescriptor),
 }
 
 // Whether the attribute bit of a weight is set.
@@ -62,60 +59,60 @@ fn fields(bytes: &[u8]) -> FunctionalDescriptor
 }
 
 impl FunctionalDescriptor {
-    // Reads a functional descriptor from a descriptor's bytes. The length byte is not read, and more bytes are ignored.
-    pub fn from_bytes(bytes: &[u8]) -> Descriptor
+    // Reads a functional descriptor from a descriptor's bytes: none if they are of another kind, or too few to have one. The length byte is not
+    // read, and more bytes than nine are ignored.
+    pub fn from_bytes(bytes: &[u8]) -> Option<Result<FunctionalDescriptor, Error>>
         ensures { result ≡ descriptor_of bytes.now }
     {
         let got = bytes.len();
-        if got < 2 {
-            return Descriptor::NotOne;
-        }
-        if bytes[1] != 0x21 {
-            return Descriptor::NotOne;
+        if got < 2 || bytes[1] != 0x21 {
+            return None;
         }
         if got < 9 {
-            return Descriptor::DataTooShort { got };
+            return Some(Err(Error::DataTooShort { got }));
         }
-        Descriptor::Read(fields(bytes))
+        Some(Ok(fields(bytes)))
     }
-}
-
-fn bit(b: bool) -> u64
-    ensures { result ≡ bit_of b }
-{
-    if b { 1 } else { 0 }
 }
 
 // A descriptor's values, in the order of its bytes.
-fn values(d: FunctionalDescriptor) -> Report
-    ensures { result ≡ report_of (said_of (Descriptor.Read d)) }
-{
-    let version = d.dfu_version;
-    Report {
-        number: 0,
-        count: 8,
-        values: [
-            bit(d.can_download),
-            bit(d.can_upload),
-            bit(d.manifestation_tolerant),
-            bit(d.will_detach),
-            d.detach_timeout as u64,
-            d.transfer_size as u64,
-            version.0 as u64,
-            version.1 as u64,
-        ],
+impl Answer for FunctionalDescriptor {
+    ghost tells = { said_fields };
+
+    fn said(self) -> Report {
+        let version = self.dfu_version;
+        Report::of(
+            0,
+            [
+                u64::from(self.can_download),
+                u64::from(self.can_upload),
+                u64::from(self.manifestation_tolerant),
+                u64::from(self.will_detach),
+                u64::from(self.detach_timeout),
+                u64::from(self.transfer_size),
+                u64::from(version.0),
+                u64::from(version.1),
+            ],
+        )
     }
 }
 
-impl Descriptor {
-    // The number and values of the answer.
-    pub fn said(self) -> Report
-        ensures { result ≡ report_of (said_of self) }
-    {
+impl Answer for Error {
+    ghost tells = { said_error };
+
+    fn said(self) -> Report {
         match self {
-            Descriptor::NotOne => Report::plain(0),
-            Descriptor::DataTooShort { got } => Report::one(14, got as u64),
-            Descriptor::Read(d) => values(d),
+            Error::DataTooShort { got } => Report::of(14, [got as u64]),
         }
     }
 }
+
+impl fmt::Display for Error {
+    fn fmt<W: fmt::Write>(&self, f: &mut fmt::Formatter<W>) -> fmt::Result {
+        match self {
+            Error::DataTooShort { .. } => write!(f, "the descriptor has fewer than 9 bytes"),
+        }
+    }
+}
+
+impl std::error::Error for Error {}

@@ -1,9 +1,6 @@
 -- What DFU 1.1's reply lays out is what the reader finds, whatever follows it. Assumes nothing.
-use Prim.Native.Nat.{ℕ, ◌+◌, ◌*◌, ◌/◌, ◌%◌}
-use mathlib.Core.Path.{◌≡◌, refl}
-use mathlib.Core.List.{List, ◌++◌}
-use native.Mathlib.Omega.{arith}
-use lib.ListN.{length}
+use Rattle.std.proofs.Common.{◌≡◌, ℕ, ◌+◌, ◌*◌, ◌/◌, ◌%◌, List, ◌++◌, length, refl, arith}
+use Rattle.std.specs.Prelude.{Ok}
 use borrow.Author.Tests.{le-ltb}
 use Rattle.ground.specs.Bytes.{little_endian_value, field}
 use Rattle.papers.specs.Status.{StatusReply, bytes_of, DfuState, b_state_of, app_idle, app_detach, dfu_idle, dfu_dnload_sync, dfu_dnbusy, dfu_dnload_idle, dfu_manifest_sync, dfu_manifest, dfu_manifest_wait_reset, dfu_upload_idle, dfu_error}
@@ -13,7 +10,6 @@ use Rattle.get_status.specs.declared.Status.{Status}
 use Rattle.get_status.specs.declared.GetStatusMessage.{GetStatusMessage}
 use Rattle.get_status.specs.Names.{state_of, state_byte, status_of, status_byte, settled}
 use Rattle.get_status.specs.Reply.{reply_of}
-use Rattle.get_status.specs.declared.Reply.{Reply}
 
 -- the reply's fields under the Rust's names, 6 taken as 7 and 3 as 4
 abbrev pub named : StatusReply → GetStatusMessage
@@ -27,7 +23,7 @@ named r = record {
 triple : (n : ℕ) → ((0 * 256 + n / 65536) * 256 + n / 256 % 256) * 256 + n % 256 ≡ n
 triple n = omega arith
 
-pub reads_the_reply : (r : StatusReply) (more : List ℕ) → reply_of (bytes_of r ++ more) ≡ Reply.Read (named r)
+pub reads_the_reply : (r : StatusReply) (more : List ℕ) → reply_of (bytes_of r ++ more) ≡ Ok (named r)
 unfolding field little_endian_value
 reads_the_reply r more = simp (le-ltb (length (bytes_of r ++ more)) 6 (omega arith), triple r.bw_poll_timeout)
 

@@ -1,31 +1,28 @@
 -- Bytes and names go back and forth. Assumes nothing.
-use Prim.Native.Nat.{ℕ, zero, suc, ◌+◌, ◌<◌}
-use mathlib.Core.Path.{◌≡◌, refl, ap, ◌∙◌}
-use mathlib.Core.List.{List, [], ◌∷◌}
-use native.Mathlib.Omega.{arith}
-use lib.ListN.{get_or, get_or-eq_default}
+use Rattle.std.proofs.Common.{◌≡◌, ℕ, ◌<◌, Bool, true, false, List, length, get_or, map, refl, sym, ap, ◌∙◌, arith}
+use Rattle.std.proofs.Math.ListN.{get_or-map, get_or-eq_default}
+use Rattle.std.proofs.lemmas.List.FromFn.{get_or-range_with_len, length-range_with_len}
+use Rattle.std.specs.List.{range_with_len}
+use lib.Dec.{ltb}
+use borrow.Author.Tests.{ltb-true, ltb-false}
 use Rattle.get_status.specs.Names.{state_names, state_of, state_byte, status_names, status_of, status_byte}
 use Rattle.get_status.specs.declared.State.{State}
 use Rattle.get_status.specs.declared.Status.{Status}
 
--- names whose bytes count up from k
-abbrev Counts : {A : Type 0} → (A → ℕ) → List A → ℕ → Type 0
-Counts f [] k = Unit
-Counts f (a ∷ l) k = (f a ≡ k) × Counts f l (suc k)
-
--- the b-th of them has byte k + b, and so has what stands for a name past the last
-counted : {A : Type 0} (f : A → ℕ) (l : List A) (k b : ℕ) (d : A) → Counts f l k → f d ≡ k + b → f (get_or l b d) ≡ k + b
-counted f [] k zero d h e = e
-counted f [] k (suc b) d h e = e
-counted f (a ∷ l) k zero d h e = h.0 ∙ omega arith
-counted f (a ∷ l) k (suc b) d h e = counted f l (suc k) b d h.1 (omega arith) ∙ omega arith
+-- where the names' bytes count up from 0, the b-th of them has byte b, and so has what stands for a name past the last
+counted : {A : Type 0} (f : A → ℕ) (l : List A) (b : ℕ) (d : A) → map f l ≡ range_with_len 0 (length l) → f d ≡ b → f (get_or l b d) ≡ b
+counted f l b d e h = sym (get_or-map f l b d) ∙ ap (λ (ks : List ℕ). get_or ks b (f d)) e ∙ place (ltb b (length l)) refl
+  where
+    place : (t : Bool) → ltb b (length l) ≡ t → get_or (range_with_len 0 (length l)) b (f d) ≡ b
+    place true r = get_or-range_with_len 0 (length l) b (f d) (ltb-true _ _ r) ∙ omega arith
+    place false r = get_or-eq_default (range_with_len 0 (length l)) (f d) {n = b} (omega (arith, length-range_with_len 0 (length l), ltb-false b (length l) r)) ∙ h
 
 -- byte to name to byte, for every byte
 pub state_byte_lem : (b : ℕ) → state_byte (state_of b) ≡ b
-state_byte_lem b = counted state_byte state_names 0 b (State.Other b) (refl, (refl, (refl, (refl, (refl, (refl, (refl, (refl, (refl, (refl, (refl, tt))))))))))) (omega arith) ∙ omega arith
+state_byte_lem b = counted state_byte state_names b (State.Other b) refl refl
 
 pub status_byte_lem : (b : ℕ) → status_byte (status_of b) ≡ b
-status_byte_lem b = counted status_byte status_names 0 b (Status.Other b) (refl, (refl, (refl, (refl, (refl, (refl, (refl, (refl, (refl, (refl, (refl, (refl, (refl, (refl, (refl, (refl, tt)))))))))))))))) (omega arith) ∙ omega arith
+status_byte_lem b = counted status_byte status_names b (Status.Other b) refl refl
 
 -- a name that stands for its byte: any but `Other` of a byte that has a name of its own
 abbrev pub NamedState : State → Type 0

@@ -1,15 +1,18 @@
 // States and statuses, a GETSTATUS reply and the judgement of a wait: get_status.rs, and State and Status of lib.rs.
 #![tactic(auto)]
 
-ghost use Rattle.std.specs.Prelude.{◌≡◌, ◌<◌, length};
+ghost use Rattle.std.specs.Prelude.{◌≡◌, nat_eq};
+ghost use Rattle.std.specs.Ordering.{on};
+ghost use Rattle.std.specs.Cmp.Rules.{comparing};
+ghost use Rattle.std.proofs.Common.{rules};
 ghost use Rattle.get_status.specs.Names.{state_of, state_byte, status_of, status_byte, settled};
-ghost use Rattle.get_status.specs.Reply.{message_of, reply_of, strict_reply_of, judged, said_of, said_met};
-ghost use Rattle.ground.specs.Said.{report_of};
+ghost use Rattle.get_status.specs.Reply.{reply_of, strict_reply_of, judged, said_message, said_look, said_error};
 
-use ground::Report;
+use ground::{Answer, Report};
+use std::fmt;
 
 // What a device is doing, DFU 1.1's bState.
-#[derive(Clone, Copy)]
+#[derive(Clone, Copy, Debug)]
 pub enum State {
     AppIdle,
     AppDetach,
@@ -27,7 +30,7 @@ pub enum State {
 }
 
 // What went wrong last, DFU 1.1's bStatus.
-#[derive(Clone, Copy)]
+#[derive(Clone, Copy, Debug)]
 pub enum Status {
     Ok,
     ErrTarget,
@@ -50,7 +53,7 @@ pub enum Status {
 }
 
 // A reply to GETSTATUS.
-#[derive(Clone, Copy)]
+#[derive(Clone, Copy, Debug, PartialEq, Eq)]
 pub struct GetStatusMessage {
     pub status: Status,
     // Milliseconds to wait before the next GETSTATUS.
@@ -59,30 +62,28 @@ pub struct GetStatusMessage {
     pub index: u8,
 }
 
-// What bytes are as a reply.
-#[derive(Clone, Copy)]
-pub enum Reply {
+// What a reply means to a wait for a target state that passes a busy one.
+#[derive(Clone, Copy, Debug, PartialEq, Eq)]
+pub enum Met {
+    Reached,
+    Busy { poll_timeout: u32 },
+}
+
+// Why a reply is refused.
+#[derive(Clone, Copy, Debug, PartialEq, Eq)]
+pub enum Error {
     // Refusal 6: fewer than 6 bytes.
     ResponseTooShort { got: usize },
     // Refusal 27: a status other than 0. Only the strict reader gives it.
     StatusError { status: Status },
-    Read(GetStatusMessage),
-}
-
-// What a reply means to a wait for a target state that passes a busy one.
-#[derive(Clone, Copy)]
-pub enum Met {
-    Reached,
-    Busy { poll_timeout: u32 },
-    // Refusal 2: neither of the two; the busy state was expected.
+    // Refusal 2: neither the target state of a wait nor its busy one, which was expected.
     InvalidState { got: State, expected: State },
 }
 
-impl State {
-    // The name of a byte.
-    pub fn from_byte(b: u8) -> State
-        ensures { result ≡ state_of b }
-    {
+impl From<u8> for State {
+    ghost from_gives = { λ b named. named ≡ state_of b };
+
+    fn from(b: u8) -> State {
         match b {
             0 => State::AppIdle,
             1 => State::AppDetach,
@@ -98,12 +99,13 @@ impl State {
             _ => State::Other(b),
         }
     }
+}
 
-    // The byte of a name.
-    pub fn byte(self) -> u8
-        ensures { result ≡ state_byte self }
-    {
-        match self {
+impl From<State> for u8 {
+    ghost from_gives = { λ state b. b ≡ state_byte state };
+
+    fn from(state: State) -> u8 {
+        match state {
             State::AppIdle => 0,
             State::AppDetach => 1,
             State::DfuIdle => 2,
@@ -118,6 +120,37 @@ impl State {
             State::Other(b) => b,
         }
     }
+}
+
+// Two states are the same where their bytes are, so no derived `==`: `Other(4)` is taken as 4.
+impl PartialEq for State {
+    ghost eq = { on state_byte nat_eq };
+
+    ghost laws = { Prim.search (comparing, rules) };
+
+    fn eq(&self, other: &State) -> bool {
+        self.byte() == other.byte()
+    }
+}
+
+impl Eq for State {
+    ghost laws = { Prim.search (comparing, rules) };
+}
+
+impl State {
+    // The name of a byte.
+    pub fn from_byte(b: u8) -> State
+        ensures { result ≡ state_of b }
+    {
+        State::from(b)
+    }
+
+    // The byte of a name.
+    pub fn byte(self) -> u8
+        ensures { result ≡ state_byte self }
+    {
+        u8::from(self)
+    }
 
     // Some devices answer a state that GETSTATUS itself leaves: it is taken as the one that follows.
     fn for_status(self) -> State
@@ -131,11 +164,10 @@ impl State {
     }
 }
 
-impl Status {
-    // The name of a byte.
-    pub fn from_byte(b: u8) -> Status
-        ensures { result ≡ status_of b }
-    {
+impl From<u8> for Status {
+    ghost from_gives = { λ b named. named ≡ status_of b };
+
+    fn from(b: u8) -> Status {
         match b {
             0x00 => Status::Ok,
             0x01 => Status::ErrTarget,
@@ -156,12 +188,13 @@ impl Status {
             _ => Status::Other(b),
         }
     }
+}
 
-    // The byte of a name.
-    pub fn byte(self) -> u8
-        ensures { result ≡ status_byte self }
-    {
-        match self {
+impl From<Status> for u8 {
+    ghost from_gives = { λ status b. b ≡ status_byte status };
+
+    fn from(status: Status) -> u8 {
+        match status {
             Status::Ok => 0x00,
             Status::ErrTarget => 0x01,
             Status::ErrFile => 0x02,
@@ -183,116 +216,137 @@ impl Status {
     }
 }
 
-// The fields of six bytes or more.
-fn fields(bytes: &[u8]) -> GetStatusMessage
-    requires { 5 < length bytes.now }
-    ensures { result ≡ message_of bytes.now }
-{
-    GetStatusMessage {
-        status: Status::from_byte(bytes[0]),
-        poll_timeout: ground::triple_at(bytes, 1),
-        state: State::from_byte(bytes[4]).for_status(),
-        index: bytes[5],
+// As for states: the byte decides.
+impl PartialEq for Status {
+    ghost eq = { on status_byte nat_eq };
+
+    ghost laws = { Prim.search (comparing, rules) };
+
+    fn eq(&self, other: &Status) -> bool {
+        self.byte() == other.byte()
+    }
+}
+
+impl Eq for Status {
+    ghost laws = { Prim.search (comparing, rules) };
+}
+
+impl Status {
+    // The name of a byte.
+    pub fn from_byte(b: u8) -> Status
+        ensures { result ≡ status_of b }
+    {
+        Status::from(b)
+    }
+
+    // The byte of a name.
+    pub fn byte(self) -> u8
+        ensures { result ≡ status_byte self }
+    {
+        u8::from(self)
     }
 }
 
 impl GetStatusMessage {
     // Reads a reply. More bytes are ignored.
-    pub fn from_bytes(bytes: &[u8]) -> Reply
+    pub fn from_bytes(bytes: &[u8]) -> Result<GetStatusMessage, Error>
         ensures { result ≡ reply_of bytes.now }
     {
         let got = bytes.len();
         if got < 6 {
-            return Reply::ResponseTooShort { got };
+            return Err(Error::ResponseTooShort { got });
         }
-        Reply::Read(fields(bytes))
+        Ok(GetStatusMessage {
+            status: Status::from_byte(bytes[0]),
+            poll_timeout: ground::triple_at(bytes, 1),
+            state: State::from_byte(bytes[4]).for_status(),
+            index: bytes[5],
+        })
     }
 
     // Reads a reply whose status must be 0: every one but a session's first, which may report the error that is to be cleared.
-    pub fn strict_from_bytes(bytes: &[u8]) -> Reply
+    pub fn strict_from_bytes(bytes: &[u8]) -> Result<GetStatusMessage, Error>
         ensures { result ≡ strict_reply_of bytes.now }
     {
-        let reply = GetStatusMessage::from_bytes(bytes);
-        match reply {
-            Reply::ResponseTooShort { got } => Reply::ResponseTooShort { got },
-            Reply::StatusError { status } => Reply::StatusError { status },
-            Reply::Read(message) => {
-                let status = message.status;
-                if status.byte() == 0 {
-                    return Reply::Read(message);
-                }
-                Reply::StatusError { status }
-            }
+        let message = Self::from_bytes(bytes)?;
+        let status = message.status;
+        if status != Status::Ok {
+            return Err(Error::StatusError { status });
         }
+        Ok(message)
     }
 
     // Judges a reply for a wait. The target is tested first, so a wait may have it for its busy state too.
-    pub fn judge(self, busy: State, target: State) -> Met
+    pub fn judge(self, busy: State, target: State) -> Result<Met, Error>
         ensures { result ≡ judged self busy target }
     {
         let got = self.state;
-        let state = got.byte();
-        if state == target.byte() {
-            return Met::Reached;
+        if got == target {
+            return Ok(Met::Reached);
         }
-        if state == busy.byte() {
-            return Met::Busy {
+        if got == busy {
+            return Ok(Met::Busy {
                 poll_timeout: self.poll_timeout,
-            };
+            });
         }
-        Met::InvalidState {
+        Err(Error::InvalidState {
             got,
             expected: busy,
+        })
+    }
+}
+
+impl Answer for GetStatusMessage {
+    ghost tells = { said_message };
+
+    fn said(self) -> Report {
+        Report::of(
+            0,
+            [
+                u64::from(self.status.byte()),
+                u64::from(self.poll_timeout),
+                u64::from(self.state.byte()),
+                u64::from(self.index),
+            ],
+        )
+    }
+}
+
+impl Answer for Met {
+    ghost tells = { said_look };
+
+    fn said(self) -> Report {
+        match self {
+            Met::Reached => Report::of(0, []),
+            Met::Busy { poll_timeout } => Report::of(0, [u64::from(poll_timeout)]),
         }
     }
 }
 
-// A message's values.
-fn values(m: GetStatusMessage) -> Report
-    ensures { result ≡ report_of (said_of (Reply.Read m)) }
-{
-    let status = m.status;
-    let state = m.state;
-    Report {
-        number: 0,
-        count: 4,
-        values: [
-            status.byte() as u64,
-            m.poll_timeout as u64,
-            state.byte() as u64,
-            m.index as u64,
-            0,
-            0,
-            0,
-            0,
-        ],
-    }
-}
+impl Answer for Error {
+    ghost tells = { said_error };
 
-impl Reply {
-    // The number and values of the answer.
-    pub fn said(self) -> Report
-        ensures { result ≡ report_of (said_of self) }
-    {
+    fn said(self) -> Report {
         match self {
-            Reply::ResponseTooShort { got } => Report::two(6, got as u64, 6),
-            Reply::StatusError { status } => Report::one(27, status.byte() as u64),
-            Reply::Read(m) => values(m),
-        }
-    }
-}
-
-impl Met {
-    // The number and values of the answer.
-    pub fn said(self) -> Report
-        ensures { result ≡ report_of (said_met self) }
-    {
-        match self {
-            Met::Reached => Report::plain(0),
-            Met::Busy { poll_timeout } => Report::one(0, poll_timeout as u64),
-            Met::InvalidState { got, expected } => {
-                Report::two(2, got.byte() as u64, expected.byte() as u64)
+            Error::ResponseTooShort { got } => Report::of(6, [got as u64, 6]),
+            Error::StatusError { status } => Report::of(27, [u64::from(status.byte())]),
+            Error::InvalidState { got, expected } => {
+                Report::of(2, [u64::from(got.byte()), u64::from(expected.byte())])
             }
         }
     }
 }
+
+impl fmt::Display for Error {
+    fn fmt<W: fmt::Write>(&self, f: &mut fmt::Formatter<W>) -> fmt::Result {
+        match self {
+            Error::ResponseTooShort { .. } => write!(f, "a reply is too short"),
+            Error::StatusError { .. } => write!(f, "the device reports an error"),
+            Error::InvalidState { .. } => {
+                write!(f, "the device is in a state that is not expected")
+            }
+        }
+    }
+}
+
+impl std::error::Error for Error {}

@@ -1,12 +1,12 @@
--- Laws of `little_endian_value`: its bound, and how the loop that reads it goes. Assumes nothing.
+-- Laws of `little_endian_value`: its bound, and what eight places hold of fewer bytes. Assumes nothing.
 use Prim.Native.Nat.{ℕ, zero, suc, ◌+◌, ◌-◌, ◌*◌, ◌^◌, ◌<◌, ◌≤◌, min}
-use mathlib.Core.Path.{◌≡◌, refl, ap, ◌∙◌}
-use mathlib.Core.List.{List, [], ◌∷◌}
+use mathlib.Core.Path.{◌≡◌, refl, ap}
+use mathlib.Core.List.{List, [], ◌∷◌, ◌++◌}
 use native.Mathlib.Omega.{arith}
-use lib.ListN.{length, take, drop, get_or, drop_of_length-le, length-take, length-drop}
-use lib.Seq.{drop-cons, get_or-take}
+use lib.ListN.{length, take, drop, replicate, get_or, length-take}
+use Rattle.std.specs.List.{slice_index}
 use Rattle.ground.specs.Bytes.{little_endian_value, field, Bytes}
-use Rattle.ground.proofs.Lists.{onwards}
+use Rattle.ground.proofs.Lists.{onwards, take_min, drop_min}
 
 -- a list whose elements are known to be bytes, and its parts
 pub bytes_of : (l : List ℕ) → ((i : ℕ) → get_or l i 0 < 256) → Bytes l
@@ -35,34 +35,29 @@ pub field_small : (at n : ℕ) (l : List ℕ) → Bytes l → field at n l < 256
 unfolding field
 field_small at n l h = small n (take n (drop at l)) (bytes_take n (drop at l) (bytes_drop at l h)) (omega (arith, length-take n (drop at l)))
 
--- the loop: nothing above the last place, room for one byte more, and one byte more a turn
-pub top : (n : ℕ) (l : List ℕ) → little_endian_value (drop (min (length l) n) (take n l)) ≡ 0
+-- zeros above the last byte add nothing
+pub above_nothing : (l z : List ℕ) → little_endian_value z ≡ 0 → little_endian_value (l ++ z) ≡ little_endian_value l
 unfolding little_endian_value
-top n l = rw (drop_of_length-le (take n l) {i = min (length l) n} (omega (arith, length-take n l)))
+above_nothing [] z e = e
+above_nothing (b ∷ bs) z e = ap (λ (v : ℕ). v * 256 + b) (above_nothing bs z e)
 
-pub room : (n i : ℕ) (l : List ℕ) → Bytes l → 0 < i → n ≤ 8 → little_endian_value (drop i (take n l)) < 256 ^ 7
-room n i l h p q = small 7 (drop i (take n l)) (bytes_drop i (take n l) (bytes_take n l h)) (omega (arith, length-drop i (take n l), length-take n l))
-
-step : (n j : ℕ) (l : List ℕ) → j < length l → j < n → little_endian_value (drop j (take n l)) ≡ little_endian_value (drop (suc j) (take n l)) * 256 + get_or l j 0
+pub zeros : (m k : ℕ) → little_endian_value (drop k (replicate m 0)) ≡ 0
 unfolding little_endian_value
-step n j l h k = rw (drop-cons (take n l) j 0 (omega (arith, length-take n l)), get_or-take n l j 0 k)
+zeros zero zero = refl
+zeros zero (suc k) = refl
+zeros (suc m) zero = ap (λ (v : ℕ). v * 256 + 0) (zeros m zero)
+zeros (suc m) (suc k) = zeros m k
 
-pub down : (n i : ℕ) (l : List ℕ) → 0 < i → i ≤ length l → i ≤ n
-    → little_endian_value (drop (i - 1) (take n l)) ≡ little_endian_value (drop i (take n l)) * 256 + get_or l (i - 1) 0
-down n i l p h k =
-    let e : suc (i - 1) ≡ i = omega arith in
-    step n (i - 1) l (omega arith) (omega arith) ∙ ap (λ (m : ℕ). little_endian_value (drop m (take n l)) * 256 + get_or l (i - 1) 0) e
+-- eight bytes, each by its worth
+pub eight_worth : (l : List ℕ) → length l ≡ 8
+    → slice_index l 0 + slice_index l 1 * 256 + slice_index l 2 * 65536 + slice_index l 3 * 16777216 + slice_index l 4 * 4294967296
+    + slice_index l 5 * 1099511627776 + slice_index l 6 * 281474976710656 + slice_index l 7 * 72057594037927936 ≡ little_endian_value l
+unfolding little_endian_value
+eight_worth (a ∷ b ∷ c ∷ d ∷ e ∷ f ∷ g ∷ h ∷ []) p = omega arith
+eight_worth _ p = absurd (omega arith)
 
--- a part from a place on, and a place past the end
-pub from : (at n : ℕ) (l : List ℕ) → little_endian_value (take n (take (length l - at) (drop at l))) ≡ field at n l
+-- the bytes that are read: so many from a place on, as far as there are some
+pub read_from : (at n : ℕ) (l : List ℕ)
+    → little_endian_value (take (min n (length (take (length l - min at (length l)) (drop (min at (length l)) l)))) (take (length l - min at (length l)) (drop (min at (length l)) l))) ≡ field at n l
 unfolding field
-from at n l = rw (onwards at l)
-
-none : (n : ℕ) → little_endian_value (take n []) ≡ 0
-unfolding little_endian_value
-none zero = refl
-none (suc n) = refl
-
-pub past : (at n : ℕ) (l : List ℕ) → length l < at → field at n l ≡ 0
-unfolding field
-past at n l h = rw (drop_of_length-le l {i = at} (omega arith)) (none n)
+read_from at n l = rw (onwards (min at (length l)) l, take_min n, drop_min at l)

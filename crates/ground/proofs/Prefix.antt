@@ -1,15 +1,14 @@
--- Laws of `prefix`: what it says, and how the loop that tests it goes. Assumes nothing.
-use Prim.Native.Nat.{ℕ, ◌+◌, ◌<◌, ◌≤◌}
-use mathlib.Core.Path.{◌≡◌, refl}
+-- Laws of `prefix`: what it says, and that it is the library's test. Assumes nothing.
+use Prim.Native.Nat.{ℕ, ◌<◌, ◌≤◌}
+use mathlib.Core.Path.{◌≡◌, refl, sym}
 use mathlib.Core.List.{List, [], ◌∷◌, ◌++◌}
 use mathlib.Core.Logic.{⊎_elim}
-use mathlib.Core.Bool.{Bool, true, false}
-use native.Mathlib.Numerals.{add-one}
+use mathlib.Core.Bool.{Bool, true, false, ◌&&◌}
 use native.Mathlib.Omega.{arith}
 use lib.Dec.{eqb}
-use lib.ListN.{length, take, drop, get_or, drop_of_length-le}
-use lib.Seq.{drop-cons}
-use borrow.Author.Tests.{eq-eqb, ne_eqb, eqb-true}
+use lib.ListN.{length, take}
+use Rattle.std.specs.Cmp.Lexicographic.{pointwise}
+use borrow.Author.Tests.{eq-eqb, ne_eqb, eqb-true, eqb-false}
 use Rattle.ground.specs.Pick.{pick}
 use Rattle.ground.specs.Bytes.{prefix}
 use Rattle.ground.proofs.Tests.{lt_or_ge}
@@ -44,15 +43,13 @@ short (a ∷ p) (b ∷ s) h = simp (short p s (omega arith)) (both (eqb b a))
 pub long : (p s : List ℕ) → prefix p s ≡ true → length p ≤ length s
 long p s e = ⊎_elim (λ l. absurd (let f = short p s l in let z : ◌≡◌ {A = ℕ} 0 1 = cc in omega arith)) (λ g. g) (lt_or_ge (length s) (length p))
 
-pub at_end : (p s : List ℕ) (i : ℕ) → length p ≤ i → prefix (drop i p) (drop i s) ≡ true
+-- the library's test of the same
+pub pointed : (p s : List ℕ) → pointwise eqb p (take (length p) s) ≡ prefix p s
 unfolding prefix
-at_end p s i h = rw (drop_of_length-le p h)
-
-module _ (p s : List ℕ) (i : ℕ) (h : i < length p) (k : i < length s) where
-  pub same : get_or s i 0 ≡ get_or p i 0 → prefix (drop i p) (drop i s) ≡ prefix (drop (i + 1) p) (drop (i + 1) s)
-  unfolding prefix
-  same e = rw (add-one, drop-cons p i 0, drop-cons s i 0) (simp (eq-eqb (get_or s i 0) (get_or p i 0) e))
-
-  pub differs : (get_or s i 0 ≡ get_or p i 0 → ⊥) → prefix (drop i p) (drop i s) ≡ false
-  unfolding prefix
-  differs e = rw (drop-cons p i 0, drop-cons s i 0) (simp (ne_eqb (get_or s i 0) (get_or p i 0) e))
+pointed [] s = refl
+pointed (a ∷ p) [] = refl
+pointed (a ∷ p) (b ∷ s) = go (eqb b a) refl (pointed p s)
+  where
+    go : (t : Bool) → eqb b a ≡ t → pointwise eqb p (take (length p) s) ≡ prefix p s → (eqb a b && pointwise eqb p (take (length p) s)) ≡ pick t (prefix p s) false
+    go true h f = let e : a ≡ b = sym (eqb-true b a h) in simp (eq-eqb a b e) f
+    go false h f = let n : a ≡ b → ⊥ = λ e. eqb-false b a h (sym e) in simp (ne_eqb a b n)

@@ -1,7 +1,5 @@
 -- Laws for the code: a transfer that is issued, or refused, by what is left of the budget. Assumes nothing.
-use Prim.Native.Nat.{ℕ, zero, suc, ◌-◌, ◌<◌}
-use mathlib.Core.Path.{◌≡◌, refl, ap}
-use native.Mathlib.Omega.{arith}
+use Rattle.std.proofs.Common.{◌≡◌, ℕ, zero, suc, ◌-◌, ◌<◌, refl, ap, arith}
 use Rattle.work.specs.declared.Progress.{Progress}
 use Rattle.work.specs.declared.Error.{Error}
 use Rattle.machine.specs.declared.Phase.{Phase}

@@ -4,29 +4,31 @@ use mathlib.Core.Bool.{Bool}
 use Rattle.ground.specs.Pins.{Pins}
 use Rattle.machine.specs.declared.Ask.{Ask}
 use Rattle.machine.specs.declared.Moved.{Moved}
-use Rattle.machine.proofs.phases.asked.Kinds as asked_kinds
-use Rattle.machine.proofs.phases.asked.Reads as asked_reads
-use Rattle.machine.proofs.phases.is_live.Kinds as is_live_kinds
-use Rattle.machine.proofs.phases.is_live.Reads as is_live_reads
-use Rattle.machine.proofs.phases.is_pause.Kinds as is_pause_kinds
-use Rattle.machine.proofs.phases.is_pause.Reads as is_pause_reads
-use Rattle.machine.proofs.steps.refused.Kinds as refused_kinds
-use Rattle.machine.proofs.steps.refused.Reads as refused_reads
-use Rattle.machine.proofs.steps.issued.Kinds as issued_kinds
-use Rattle.machine.proofs.steps.issued.Reads as issued_reads
-use Rattle.machine.proofs.steps.proceeded.Kinds as proceeded_kinds
-use Rattle.machine.proofs.steps.proceeded.Reads as proceeded_reads
-use Rattle.machine.proofs.steps.counted.Kinds as counted_kinds
-use Rattle.machine.proofs.steps.counted.Reads as counted_reads
-use Rattle.machine.proofs.replies.first_reply.Kinds as first_reply_kinds
-use Rattle.machine.proofs.replies.first_reply.Reads as first_reply_reads
-use Rattle.machine.proofs.replies.second_reply.Kinds as second_reply_kinds
-use Rattle.machine.proofs.replies.second_reply.Reads as second_reply_reads
-use Rattle.machine.proofs.replies.wait_reply.Kinds as wait_reply_kinds
-use Rattle.machine.proofs.replies.wait_reply.Reads as wait_reply_reads
+use Rattle.machine.proofs.Phase.asked.Kinds as asked_kinds
+use Rattle.machine.proofs.Phase.asked.Reads as asked_reads
+use Rattle.machine.proofs.Phase.is_live.Kinds as is_live_kinds
+use Rattle.machine.proofs.Phase.is_live.Reads as is_live_reads
+use Rattle.machine.proofs.Phase.is_pause.Kinds as is_pause_kinds
+use Rattle.machine.proofs.Phase.is_pause.Reads as is_pause_reads
+use Rattle.machine.proofs.Moved.refused.Kinds as refused_kinds
+use Rattle.machine.proofs.Moved.refused.Reads as refused_reads
+use Rattle.machine.proofs.Moved.issued.Kinds as issued_kinds
+use Rattle.machine.proofs.Moved.issued.Reads as issued_reads
+use Rattle.machine.proofs.Moved.proceeded.Kinds as proceeded_kinds
+use Rattle.machine.proofs.Moved.proceeded.Reads as proceeded_reads
+use Rattle.machine.proofs.Moved.counted.Kinds as counted_kinds
+use Rattle.machine.proofs.Moved.counted.Reads as counted_reads
+use Rattle.machine.proofs.Moved.first_reply.Kinds as first_reply_kinds
+use Rattle.machine.proofs.Moved.first_reply.Reads as first_reply_reads
+use Rattle.machine.proofs.Moved.second_reply.Kinds as second_reply_kinds
+use Rattle.machine.proofs.Moved.second_reply.Reads as second_reply_reads
+use Rattle.machine.proofs.Moved.wait_reply.Kinds as wait_reply_kinds
+use Rattle.machine.proofs.Moved.wait_reply.Reads as wait_reply_reads
+use Rattle.machine.proofs.Ask.is_end.Kinds as is_end_kinds
+use Rattle.machine.proofs.Ask.is_end.Reads as is_end_reads
 use Rattle.ground.specs.declared.Report.{Report}
-use Rattle.machine.proofs.Ask.said.Kinds as said_kinds
-use Rattle.machine.proofs.Ask.said.Reads as said_reads
+use Rattle.machine.proofs.asks.AskAnswer.said.Kinds as said_kinds
+use Rattle.machine.proofs.asks.AskAnswer.said.Reads as said_reads
 
 pub pinned_asked : Pins asked_kinds.ps asked_kinds.r {R = Ask} asked_reads.Post (λ κs r s. r)
 pinned_asked κs a x y s t p q = p ∙ sym q
@@ -60,3 +62,6 @@ pinned_wait_reply κs a x y s t p q = p ∙ sym q
 
 pub pinned_said : Pins said_kinds.ps said_kinds.r {R = Report} said_reads.Post (λ κs r s. r)
 pinned_said κs a x y s t p q = p ∙ sym q
+
+pub pinned_is_end : Pins is_end_kinds.ps is_end_kinds.r {R = Bool} is_end_reads.Post (λ κs r s. r)
+pinned_is_end κs a x y s t p q = p ∙ sym q

@@ -1,13 +1,13 @@
 -- What a step of a session comes to, whatever the work: document 01, 'One session, step by step' and 'When the box says no'.
-use Rattle.std.specs.Prelude.{ℕ, zero, suc, Bool, true, false, List, [], ◌∷◌, ◌==◌}
+use Rattle.std.specs.Prelude.{ℕ, zero, suc, Bool, true, false, List, [], ◌∷◌, ◌==◌, Result, Ok, Err}
 use Rattle.ground.specs.Pick.{pick}
 use Rattle.ground.specs.Said.{Said, says}
 use Rattle.get_status.specs.Names.{state_byte}
 use Rattle.get_status.specs.Reply.{reply_of, strict_reply_of, judged}
 use Rattle.get_status.specs.declared.State.{State}
 use Rattle.get_status.specs.declared.GetStatusMessage.{GetStatusMessage}
-use Rattle.get_status.specs.declared.Reply.{Reply}
 use Rattle.get_status.specs.declared.Met.{Met}
+use Rattle.get_status.specs.declared.Error.{Error as ReplyError}
 use Rattle.wire.specs.declared.Command.{Command}
 use Rattle.wire.specs.declared.Control.{Control}
 use Rattle.wire.specs.Wire.{wire_of}
@@ -17,7 +17,7 @@ use Rattle.work.specs.declared.End.{End}
 use Rattle.work.specs.declared.Setup.{Setup}
 use Rattle.work.specs.declared.Progress.{Progress}
 use Rattle.work.specs.declared.Todo.{Todo}
-use Rattle.work.specs.Work.{wait_after, whole_of, takenb, said_error}
+use Rattle.work.specs.Work.{wait_after, whole_of, takenb, refusal_of, said_error}
 use Rattle.work.specs.declared.Wait.{Wait}
 use Rattle.machine.specs.declared.Phase.{Phase}
 use Rattle.machine.specs.declared.Moved.{Moved}
@@ -42,43 +42,47 @@ end_phase End.Stays = Phase.Finished End.Stays
 end_phase End.Reset = Phase.Resetting
 
 -- what is done about what the work wants
-abbrev pub proceed : Progress → ℕ → Todo → Moved
-proceed pr l (Todo.Send c then) = issue pr l then (Phase.Sent c)
-proceed pr l (Todo.End e) = to pr l (end_phase e)
-proceed pr l (Todo.Refuse e) = refuse pr l e
+abbrev pub proceed : Progress → ℕ → Result Todo Error → Moved
+proceed pr l (Ok (Todo.Send c then)) = issue pr l then (Phase.Sent c)
+proceed pr l (Ok (Todo.End e)) = to pr l (end_phase e)
+proceed pr l (Err e) = refuse pr l e
 
 -- a command that was taken: the progress moves and the wait begins; any other count of a block is 28, with both numbers
 abbrev pub on_count : Setup → Progress → ℕ → Command → Progress → ℕ → Moved
 on_count su pr l c then n = pick (takenb c n) (to then l (Phase.Waiting (wait_after su c n))) (refuse pr l (Error.WrongCount n (whole_of c)))
 
 -- the first reply of a session may report the error that CLRSTATUS clears; every later one must have status 0
-abbrev pub first_reply : List ℕ → Reply
+abbrev pub first_reply : List ℕ → Result GetStatusMessage ReplyError
 first_reply bs = reply_of bs
 
-abbrev pub later_reply : List ℕ → Reply
+abbrev pub later_reply : List ℕ → Result GetStatusMessage ReplyError
 later_reply bs = strict_reply_of bs
 
 -- a reply that can't be read ends the session
-abbrev pub reading : Progress → ℕ → Reply → (GetStatusMessage → Moved) → Moved
-reading pr l (Reply.ResponseTooShort got) f = refuse pr l (Error.ResponseTooShort got)
-reading pr l (Reply.StatusError status) f = refuse pr l (Error.StatusError status)
-reading pr l (Reply.Read m) f = f m
+abbrev pub reading : Progress → ℕ → Result GetStatusMessage ReplyError → (GetStatusMessage → Moved) → Moved
+reading pr l (Ok m) f = f m
+reading pr l (Err e) f = refuse pr l (refusal_of e)
+
+-- a step as code has it: where it went, or why it ends the session
+abbrev pub or_refuse : Progress → ℕ → Result Moved Error → Moved
+or_refuse pr l (Ok m) = m
+or_refuse pr l (Err e) = refuse pr l e
 
 -- if state 10, CLRSTATUS; GETSTATUS again
 unfoldable pub on_first : Progress → ℕ → GetStatusMessage → Moved
 on_first pr l m = issue pr l pr (pick (state_byte m.state == 10) Phase.Clear Phase.Second)
 
 -- not state 2 is refusal 2, expected 2
-unfoldable pub on_second : Progress → ℕ → Todo → GetStatusMessage → Moved
+unfoldable pub on_second : Progress → ℕ → Result Todo Error → GetStatusMessage → Moved
 on_second pr l todo m = pick (state_byte m.state == 2) (proceed pr l todo) (refuse pr l (Error.InvalidState m.state State.DfuIdle))
 
 -- target reached: go on; busy: wait the reply's milliseconds and ask again; otherwise 2
-abbrev pub on_met : Progress → ℕ → State → State → Todo → Met → Moved
-on_met pr l b t todo Met.Reached = proceed pr l todo
-on_met pr l b t todo (Met.Busy ms) = to pr l (Phase.Waiting (Wait.Pause b t ms))
-on_met pr l b t todo (Met.InvalidState got expected) = refuse pr l (Error.InvalidState got expected)
+abbrev pub on_met : Progress → ℕ → State → State → Result Todo Error → Result Met ReplyError → Moved
+on_met pr l b t todo (Ok Met.Reached) = proceed pr l todo
+on_met pr l b t todo (Ok (Met.Busy ms)) = to pr l (Phase.Waiting (Wait.Pause b t ms))
+on_met pr l b t todo (Err e) = refuse pr l (refusal_of e)
 
-unfoldable pub on_poll : Progress → ℕ → State → State → Todo → GetStatusMessage → Moved
+unfoldable pub on_poll : Progress → ℕ → State → State → Result Todo Error → GetStatusMessage → Moved
 on_poll pr l b t todo m = on_met pr l b t todo (judged m b t)
 
 -- what a session asks
@@ -104,6 +108,14 @@ said_ask Ask.Reset = says 0 (3 ∷ [])
 said_ask (Ask.Finished End.Stays) = says 0 (4 ∷ [])
 said_ask (Ask.Finished End.Reset) = says 0 (5 ∷ [])
 said_ask (Ask.Refused e) = said_error e
+
+-- what ends a session: it finished, or was refused
+abbrev pub endb : Ask → Bool
+endb (Ask.Transfer q) = false
+endb (Ask.Wait ms) = false
+endb Ask.Reset = false
+endb (Ask.Finished e) = true
+endb (Ask.Refused e) = true
 
 -- a session that has not ended
 abbrev pub liveb : Phase → Bool

@@ -1,79 +1,68 @@
 // One step: a transfer is issued, what the work wants is done, a count is taken.
-ghost use Rattle.std.specs.Prelude.{◌≡◌};
-ghost use Rattle.machine.specs.Machine.{refuse, issue, end_phase, proceed, on_count};
+ghost use Rattle.std.specs.Prelude.{◌≡◌, Ok};
+ghost use Rattle.machine.specs.Machine.{refuse, issue, proceed, on_count};
 
 use crate::{Moved, Phase};
 use wire::Command;
 use work::{End, Error, Progress, Setup, Todo};
 
-// A refusal that ends the session: nothing moves but the phase.
-pub fn refused(progress: Progress, left: u64, error: Error) -> Moved
-    ensures { result ≡ refuse progress left error }
-{
-    Moved {
-        progress,
-        left,
-        phase: Phase::Refused(error),
+impl Moved {
+    // A refusal that ends the session: nothing moves but the phase.
+    pub fn refused(self, error: Error) -> Moved
+        ensures { result ≡ refuse self.progress self.left error }
+    {
+        Moved {
+            phase: Phase::Refused(error),
+            ..self
+        }
     }
-}
 
-// A transfer is issued, and the progress moves, if the budget has one left.
-pub fn issued(progress: Progress, left: u64, then: Progress, phase: Phase) -> Moved
-    ensures { result ≡ issue progress left then phase }
-{
-    if left == 0 {
-        return refused(progress, left, Error::BudgetSpent);
-    }
-    Moved {
-        progress: then,
-        left: left - 1,
-        phase,
-    }
-}
-
-// How a session ends: finished, or a USB reset first.
-fn end_of(end: End) -> Phase
-    ensures { result ≡ end_phase end }
-{
-    match end {
-        End::Stays => Phase::Finished(End::Stays),
-        End::Reset => Phase::Resetting,
-    }
-}
-
-// What is wanted next is done.
-pub fn proceeded(progress: Progress, left: u64, todo: Todo) -> Moved
-    ensures { result ≡ proceed progress left todo }
-{
-    match todo {
-        Todo::Send { command, then } => issued(progress, left, then, Phase::Sent(command)),
-        Todo::End(end) => Moved {
-            progress,
+    // A transfer is issued, and the progress moves, if the budget has one left.
+    #[tactic(auto, using(crate::proofs::Issuing::spent, crate::proofs::Issuing::some))]
+    pub fn issued(self, then: Progress, phase: Phase) -> Moved
+        ensures { result ≡ issue self.progress self.left then phase }
+    {
+        let Some(left) = self.left.checked_sub(1) else {
+            return self.refused(Error::BudgetSpent);
+        };
+        Moved {
+            progress: then,
             left,
-            phase: end_of(end),
-        },
-        Todo::Refuse(error) => refused(progress, left, error),
+            phase,
+        }
     }
-}
 
-// The count of a command was told: the progress moves and the wait begins, unless a block was not taken whole.
-pub fn counted(
-    setup: Setup,
-    progress: Progress,
-    left: u64,
-    sent: Command,
-    then: Progress,
-    count: u64,
-) -> Moved
-    ensures { result ≡ on_count setup progress left sent then count }
-{
-    if !work::is_taken(sent, count) {
-        let len = work::whole(sent);
-        return refused(progress, left, Error::WrongCount { count, len });
+    // What is wanted next is done: a command, or the end, with a USB reset first where one is due.
+    pub fn proceeded(self, todo: Todo) -> Moved
+        ensures { result ≡ proceed self.progress self.left (Ok todo) }
+    {
+        match todo {
+            Todo::Send { command, then } => self.issued(then, Phase::Sent(command)),
+            Todo::End(End::Stays) => Moved {
+                phase: Phase::Finished(End::Stays),
+                ..self
+            },
+            Todo::End(End::Reset) => Moved {
+                phase: Phase::Resetting,
+                ..self
+            },
+        }
     }
-    Moved {
-        progress: then,
-        left,
-        phase: Phase::Waiting(work::wait_after(setup, sent, count)),
+
+    // The count of a command was told: the progress moves and the wait begins, unless a block was not taken whole.
+    pub fn counted(self, setup: Setup, sent: Command, then: Progress, count: u64) -> Moved
+        ensures { result ≡ on_count setup self.progress self.left sent then count }
+    {
+        if !work::is_taken(sent, count) {
+            return self.refused(Error::WrongCount {
+                count,
+                len: work::whole(sent),
+            });
+        }
+        Moved {
+            progress: then,
+            phase: Phase::Waiting(setup.wait_after(sent, count)),
+            ..self
+        }
     }
 }

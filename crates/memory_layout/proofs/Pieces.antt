@@ -1,67 +1,42 @@
--- Laws of one piece: a law for each way that its reader goes. Assumes nothing.
-use Rattle.std.proofs.Common.{◌≡◌, ℕ, ◌+◌, ◌-◌, ◌*◌, ◌^◌, ◌<◌, ◌≤◌, eqb, List, length, get_or, take, drop, ap, ◌∙◌, mul-le-mul_left, arith, length-drop, length-take-le, get_or-drop, le-ltb, lt-ltb, eq-eqb, ne_eqb}
+-- Laws of one piece: its star is the library's first place of a `*`, or there is none. Assumes nothing.
+use Rattle.std.proofs.Common.{◌≡◌, ◌==◌, ℕ, ◌+◌, ◌-◌, ◌*◌, ◌<◌, ◌≤◌, List, length, get_or, take, drop, IfSome, Option, Some, None, Ok, Err, position, unwrap_or, sym, ap, ◌∙◌, eqb, eq-eqb, ne_eqb, le-ltb, arith}
+use Rattle.std.proofs.lemmas.List.Quantifiers.{position-Some}
 use Rattle.ground.proofs.Tests.{picked}
 use Rattle.numeral.specs.Number.{number_of}
-use Rattle.numeral.specs.declared.Number.{Number}
-use Rattle.memory_layout.specs.Layout.{factor_of, scaled, starred}
+use Rattle.memory_layout.specs.Layout.{up_to, run_of, factor_of, scaled, starred, piece_of}
 use Rattle.memory_layout.specs.declared.Error.{Error}
-use Rattle.memory_layout.specs.declared.Piece.{Piece}
+use Rattle.memory_layout.proofs.Scan.{placed, lead}
 
--- a size times its unit fits 64 bits
-factor_most : (c : ℕ) → factor_of c ≤ 1048576
+pub starless : (p : List ℕ) (at : ℕ) → position (λ (b : ℕ). b == 42) p ≡ None → piece_of p at ≡ Err (Error.InvalidPageFormat at (length p))
+unfolding piece_of
+starless p at e =
+    let n : length (up_to 42 p) ≡ length p = sym (placed 42 p) ∙ ap (λ o. unwrap_or o (length p)) e in
+    simp (eq-eqb (length (up_to 42 p)) (length p) n)
+
+pub with_star : (p : List ℕ) (i at : ℕ) → position (λ (b : ℕ). b == 42) p ≡ Some i → piece_of p at ≡ starred (take i p) (drop (i + 1) p) at
+unfolding piece_of
+with_star p i at e =
+    let n : length (up_to 42 p) ≡ i = sym (placed 42 p) ∙ ap (λ o. unwrap_or o (length p)) e in
+    let l : i < length p = (position-Some (λ (b : ℕ). b == 42) p i 0 e).0 in
+    let u : up_to 42 p ≡ take i p = sym (lead 42 p) ∙ ap (λ (k : ℕ). take k p) n in
+    simp (ne_eqb (length (up_to 42 p)) (length p) (λ (k : length (up_to 42 p) ≡ length p). omega arith)) (ap (λ (k : ℕ). starred (up_to 42 p) (drop (k + 1) p) at) n ∙ ap (λ (c : List ℕ). starred c (drop (i + 1) p) at) u)
+
+-- a unit multiplies by 2^20 at most
+pub factor_most : (c : ℕ) → IfSome (factor_of c) (λ f. f ≤ 1048576)
 factor_most c =
-    picked (λ (f : ℕ). f ≤ 1048576) (eqb c 75) _ _ (λ e. omega arith)
-    (λ e. picked (λ (f : ℕ). f ≤ 1048576) (eqb c 77) _ _ (λ e. omega arith)
-    (λ e. picked (λ (f : ℕ). f ≤ 1048576) (eqb c 66) _ _ (λ e. omega arith)
-    (λ e. picked (λ (f : ℕ). f ≤ 1048576) (eqb c 32) _ _ (λ e. omega arith) (λ e. omega arith))))
+    let Most : Option ℕ → Type 0 = λ (o : Option ℕ). IfSome o (λ f. f ≤ 1048576) in
+    picked Most (eqb c 75) _ _ (λ e. omega arith)
+    (λ e. picked Most (eqb c 77) _ _ (λ e. omega arith)
+    (λ e. picked Most (eqb c 66) _ _ (λ e. omega arith)
+    (λ e. picked Most (eqb c 32) _ _ (λ e. omega arith) (λ e. tt))))
 
-pub product : (size c f : ℕ) → size < 4294967296 → f ≡ factor_of c → size * f < 2 ^ 64
-product size c f h e = let m : f ≤ 1048576 = omega (arith, factor_most c) in omega (arith, mul-le-mul_left size m)
+-- a size times its unit, below 2^32
+pub fits : (count size f at : ℕ) → size * f ≤ 4294967295 → scaled count size (Some f) at ≡ Ok (run_of count (size * f))
+unfolding scaled
+fits count size f at h = simp (le-ltb 4294967295 (size * f) h)
 
-module _ (count size f at : ℕ) where
-  pub no_unit : f ≡ 0 → scaled count size f at ≡ Piece.Fault (Error.InvalidPrefix at 1)
-  unfolding scaled
-  no_unit e = simp (eq-eqb f 0 e)
-
-  pub too_large : (f ≡ 0 → ⊥) → 4294967295 < size * f → scaled count size f at ≡ Piece.Fault Error.PageTooLarge
-  unfolding scaled
-  too_large e h = simp (ne_eqb f 0 e, lt-ltb 4294967295 (size * f) h)
-
-  pub fits : (f ≡ 0 → ⊥) → size * f ≤ 4294967295 → scaled count size f at ≡ Piece.Run count (size * f)
-  unfolding scaled
-  fits e h = simp (ne_eqb f 0 e, le-ltb 4294967295 (size * f) h)
-
--- a piece p whose star stands at a place of it
-module _ (p : List ℕ) (star at : ℕ) (h : star < length p) where
-  count_length : length (take star p) ≡ star
-  count_length = length-take-le star p (omega arith)
-
-  rest_length : length (drop (star + 1) p) ≡ length p - (star + 1)
-  rest_length = length-drop (star + 1) p
-
-  pub short : length p - (star + 1) < 2 → starred (take star p) (drop (star + 1) p) at ≡ Piece.Fault (Error.ParseErrorPageSize (at + (star + 1)) (length p - (star + 1)))
-  unfolding starred
-  short k = simp (count_length, rest_length, lt-ltb (length p - (star + 1)) 2 k)
-
-  module _ (k : 2 ≤ length p - (star + 1)) where
-    pub bad_count : number_of 10 (take star p) ≡ Number.Bad → starred (take star p) (drop (star + 1) p) at ≡ Piece.Fault (Error.ParseErrorPageCount at star)
-    unfolding starred
-    bad_count e = simp (e, count_length, rest_length, le-ltb (length p - (star + 1)) 2 k)
-
-    module _ (n : ℕ) (e : number_of 10 (take star p) ≡ Number.Value n) where
-      pub bad_size : number_of 10 (take (length p - 2 - (star + 1)) (drop (star + 1) p)) ≡ Number.Bad
-          → starred (take star p) (drop (star + 1) p) at ≡ Piece.Fault (Error.ParseErrorPageSize (at + (star + 1)) (length p - 2 - (star + 1)))
-      unfolding starred
-      bad_size b =
-          let m : length p - (star + 1) - 2 ≡ length p - 2 - (star + 1) = omega arith in
-          simp (e, count_length, rest_length, le-ltb (length p - (star + 1)) 2 k, m, b)
-
-      pub good : (v : ℕ) → number_of 10 (take (length p - 2 - (star + 1)) (drop (star + 1) p)) ≡ Number.Value v
-          → starred (take star p) (drop (star + 1) p) at ≡ scaled n v (factor_of (get_or p (length p - 2) 0)) (at + (length p - 2))
-      unfolding starred
-      good v b =
-          let m : length p - (star + 1) - 2 ≡ length p - 2 - (star + 1) = omega arith in
-          let g : get_or (drop (star + 1) p) (length p - 2 - (star + 1)) 0 ≡ get_or p (length p - 2) 0 =
-          get_or-drop (star + 1) p (length p - 2 - (star + 1)) 0 ∙ ap (λ (i : ℕ). get_or p i 0) (omega arith) in
-          let o : at + (star + 1) + (length p - 2 - (star + 1)) ≡ at + (length p - 2) = omega arith in
-          simp (e, count_length, rest_length, le-ltb (length p - (star + 1)) 2 k, m, b, g, o)
+-- a count before the star, and a size, a unit and a type after it
+pub good : (count rest : List ℕ) (n v at : ℕ) → 2 ≤ length rest → number_of 10 count ≡ Some n → number_of 10 (take (length rest - 2) rest) ≡ Some v
+    → starred count rest at ≡ scaled n v (factor_of (get_or rest (length rest - 2) 0)) (at + (length count + 1) + (length rest - 2))
+unfolding starred
+good count rest n v at h e f = simp (le-ltb (length rest) 2 h, e, f)

@@ -1,6 +1,10 @@
 -- Laws of `up_to`, `end_of` and `split`: how a scan for a byte goes, and the pieces of a text. Assumes nothing.
-use Rattle.std.proofs.Common.{◌≡◌, ℕ, suc, ◌+◌, ◌<◌, ◌≤◌, Bool, true, false, eqb, List, [], ◌∷◌, length, get_or, take, drop, refl, ap, ⊎_elim, suc-le-suc, zero-le, eq-or-lt_of_le, add-one, arith, length-drop, drop_of_length-le, drop-cons, eq-eqb, ne_eqb}
+use Rattle.std.proofs.Common.{◌≡◌, ◌==◌, cond, position, unwrap_or, ℕ, suc, ◌+◌, ◌<◌, ◌≤◌, Bool, true, false, eqb, List, [], ◌∷◌, length, get_or, take, drop, refl, ap, ⊎_elim, suc-le-suc, zero-le, eq-or-lt_of_le, add-one, arith, length-drop, drop_of_length-le, drop-cons, eq-eqb, ne_eqb}
+use Rattle.std.specs.List.{position_or_len}
+use Rattle.std.proofs.lemmas.Bool.Decides.{nat_tests}
+use Rattle.std.proofs.lemmas.List.Recursion.{is_position_or_len}
 use Rattle.ground.specs.Pick.{pick}
+use Rattle.ground.proofs.Tests.{lt_or_ge}
 use Rattle.memory_layout.specs.Layout.{up_to, end_of, split, push}
 
 -- the end stops the search
@@ -96,3 +100,21 @@ some_pieces t = ⊎_elim (λ e. ([], one_piece t e)) (λ l. (split (drop (suc (l
 -- a star at i, with neither a star nor a comma from a to i, comes before the comma
 pub found : (s : List ℕ) (a i : ℕ) → i < length s → end_of 44 s a ≡ end_of 44 s i → end_of 42 s a ≡ end_of 42 s i → get_or s i 0 ≡ 42 → end_of 42 s a < end_of 44 s a
 found s a i h p q e = omega (arith, stop_at 42 s i h e, pass 44 s i h (λ (k : get_or s i 0 ≡ 44). omega arith), end_from 44 s (i + 1))
+
+-- the first place of a byte as the library says it
+as_place : (x : ℕ) (t : List ℕ) → length (up_to x t) ≡ position_or_len (λ (b : ℕ). b == x) t
+unfolding up_to
+as_place x t = is_position_or_len (λ (t : List ℕ). length (up_to x t)) (λ (b : ℕ). b == x) refl (λ c cs. go (eqb c x) c (up_to x cs)) t
+  where
+    go : (b : Bool) (c : ℕ) (l : List ℕ) → length (pick b [] (c ∷ l)) ≡ cond b 0 (1 + length l)
+    go true c l = refl
+    go false c l = omega arith
+
+pub placed : (x : ℕ) (t : List ℕ) → unwrap_or (position (λ (b : ℕ). b == x) t) (length t) ≡ length (up_to x t)
+placed x t = grind (arith, nat_tests, as_place x t, short x t)
+
+-- the end or an x: it stops here
+pub stop : (x : ℕ) (s : List ℕ) (i : ℕ) → (i < length s → get_or s i 0 ≡ x) → end_of x s i ≡ i
+stop x s i f = ⊎_elim (λ l. stop_at x s i l (f l)) (λ g. stop_end x s i g) (lt_or_ge i (length s))
+
+pub ruleset ends = (end_from, end_in)

@@ -1,60 +1,50 @@
 // The usual text, read in one pass: a piece is digits, a star, digits, a unit and a type. Of any other text nothing is said here.
-ghost use Rattle.std.specs.Prelude.{◌≡◌, ◌+◌, ◌*◌, ◌≤◌, true, ◌++◌, length, drop};
-ghost use Rattle.memory_layout.specs.Usual.{ScannedAt, CountedAt, EndsAt, UsualAt, QuickIn, laid};
+ghost use Rattle.std.specs.Prelude.{◌≡◌, ◌+◌, ◌≤◌, true, ◌++◌, length, drop};
+ghost use Rattle.memory_layout.specs.Usual.{ScannedAt, EndsAt, UsualAt, QuickIn, laid};
 
-use crate::Piece;
+use crate::{MAX_TEXT, Run};
 
-// Digits from a place on: their value, and where they stop.
+// The most pieces that a usual text may have: each but the last takes four bytes at least, its comma with it.
+pub(crate) const MAX_RUNS: usize = MAX_TEXT / 4;
+
+// A number, and where its digits stop.
 #[derive(Clone, Copy)]
 pub struct Scanned {
     pub value: u32,
     pub end: usize,
 }
 
-// A usual piece, and where it stops; or another.
+// A usual piece, and where it stops.
 #[derive(Clone, Copy)]
-pub enum Found {
-    Run { count: u32, size: u32, end: usize },
-    Other,
+pub struct Usual {
+    pub run: Run,
+    pub end: usize,
 }
 
-// A text of usual pieces with room for them: how many pages, and how many runs of pages were kept; or another.
+// A text of usual pieces with room for them: how many pages, and how many runs of pages were kept.
 #[derive(Clone, Copy)]
-pub enum Quick {
-    Pages { pages: usize, runs: usize },
-    Other,
+pub struct Quick {
+    pub pages: usize,
+    pub runs: usize,
 }
 
-// The digits from a place on; none where their value would reach 2^32.
-fn digits(s: &[u8], from: usize) -> Scanned
-    requires { from ≤ length s.now }
-    ensures { ScannedAt s.now from result }
+// The number from a place on, if it is below 2^32.
+fn digits(text: &[u8], from: usize) -> Option<Scanned>
+    requires { from ≤ length text.now }
+    ensures { ScannedAt text.now from result }
 {
-    let mut v: u64 = 0;
-    let mut i = from;
-    while i < s.len() {
+    let mut value: u32 = 0;
+    let mut end = from;
+    for byte in &text[from..] {
         // A byte before `0` wraps to far above 9: one test tells a digit.
-        let d = std::num::wrapping_sub_u64(s[i] as u64, 48);
-        if 9 < d {
-            return Scanned {
-                value: v as u32,
-                end: i,
-            };
+        let digit = u64::from(*byte).wrapping_sub(48);
+        if 9 < digit {
+            break;
         }
-        let w = v * 10 + d;
-        if 4294967295 < w {
-            return Scanned {
-                value: 0,
-                end: from,
-            };
-        }
-        v = w;
-        i += 1;
+        value = u32::try_from(u64::from(value) * 10 + digit).ok()?;
+        end += 1;
     }
-    Scanned {
-        value: v as u32,
-        end: i,
-    }
+    (from < end).then_some(Scanned { value, end })
 }
 
 // Whether a unit and a type stand at a place, and the piece ends after them.
@@ -62,102 +52,61 @@ fn is_end(text: &[u8], end: usize) -> bool
     requires { end ≤ length text.now }
     ensures { result ≡ true → EndsAt text.now end }
 {
-    if text.len() - end < 2 {
-        return false;
-    }
-    if text[end] == b',' {
-        return false;
-    }
-    if text[end + 1] == b',' {
-        return false;
-    }
-    if end + 2 == text.len() {
-        return true;
-    }
-    text[end + 2] == b','
-}
-
-// A piece from its star on: digits, a unit and a type.
-fn sized(text: &[u8], a: usize, star: usize, count: u32) -> Found
-    requires { CountedAt text.now a star count }
-    ensures { UsualAt text.now a result }
-{
-    let read = digits(text, star + 1);
-    let end = read.end;
-    if end == star + 1 {
-        return Found::Other;
-    }
-    if !is_end(text, end) {
-        return Found::Other;
-    }
-    let piece = crate::scale(count, read.value, text[end], end);
-    match piece {
-        Piece::Run { count, size } => Found::Run {
-            count,
-            size,
-            end: end + 2,
-        },
-        Piece::Fault(_) => Found::Other,
-    }
+    matches!(&text[end..], [unit, kind] | [unit, kind, b',', ..] if *unit != b',' && *kind != b',')
 }
 
 // The piece from a place on, if it is a usual one.
-fn piece_at(text: &[u8], a: usize) -> Found
-    requires { a ≤ length text.now }
-    ensures { UsualAt text.now a result }
+fn piece_at(text: &[u8], at: usize) -> Option<Usual>
+    requires { at ≤ length text.now }
+    ensures { UsualAt text.now at result }
 {
-    let read = digits(text, a);
-    let star = read.end;
-    if star == a {
-        return Found::Other;
+    let count = digits(text, at)?;
+    let [b'*', ..] = &text[count.end..] else {
+        return None;
+    };
+    let size = digits(text, count.end + 1)?;
+    let end = size.end;
+    if !is_end(text, end) {
+        return None;
     }
-    if star == text.len() {
-        return Found::Other;
-    }
-    if text[star] != b'*' {
-        return Found::Other;
-    }
-    sized(text, a, star, read.value)
+    let run = Run::new(count.value, size.value, text[end], end).ok()?;
+    Some(Usual { run, end: end + 2 })
 }
 
-// Reads a text of usual pieces, and keeps the count and the size of each, one after the other.
-pub(crate) fn read_runs(text: &[u8], room: usize, runs: &mut [u32]) -> Quick
-    requires { (length text.now ≤ 1024) × (length runs.old ≡ 512) }
+// Reads a text of usual pieces, and keeps the run of each. A split at commas first would read each byte twice.
+#[tactic(auto, using(crate::proofs::Runs::turns))]
+pub(crate) fn read_runs(text: &[u8], room: usize, runs: &mut [Run]) -> Option<Quick>
+    requires { (length text.now ≤ 1024) × (length runs.old ≡ 256) }
     ensures { QuickIn text.now room runs.new result }
 {
-    let mut a = 0;
-    let mut n = 0;
-    let mut k = 0;
+    let mut at = 0;
+    let mut pages = 0;
+    let mut kept = 0;
     loop {
-        let piece = piece_at(text, a);
-        let Found::Run { count, size, end } = piece else {
-            return Quick::Other;
-        };
-        if room - n < count as usize {
-            return Quick::Other;
+        let piece = piece_at(text, at)?;
+        let count = piece.run.count as usize;
+        if room - pages < count {
+            return None;
         }
-        runs[2 * k] = count;
-        runs[2 * k + 1] = size;
-        k += 1;
-        n += count as usize;
-        if end == text.len() {
-            return Quick::Pages { pages: n, runs: k };
+        runs[kept] = piece.run;
+        kept += 1;
+        pages += count;
+        if piece.end == text.len() {
+            return Some(Quick { pages, runs: kept });
         }
-        a = end + 1;
+        at = piece.end + 1;
     }
 }
 
-// The pages of the first n runs, at the front of the store.
-pub(crate) fn lay(runs: &[u32], n: usize, store: &mut [u32])
-    requires { (2 * n ≤ length runs.now) × (length (laid runs.now n) ≤ length store.old) }
-    ensures { store.new ≡ laid runs.now n ++ drop (length (laid runs.now n)) store.old }
+// The pages of runs, at the front of the store.
+#[tactic(auto, using(crate::proofs::Laid::within))]
+pub(crate) fn lay(runs: &[Run], store: &mut [u32])
+    requires { length (laid runs.now) ≤ length store.old }
+    ensures { store.new ≡ laid runs.now ++ drop (length (laid runs.now)) store.old }
 {
     let mut at = 0;
-    let mut j = 0;
-    while j < n {
-        let count = runs[2 * j] as usize;
-        crate::fill(store, at, count, runs[2 * j + 1]);
-        at += count;
-        j += 1;
+    for run in runs {
+        run.lay(store, at);
+        at += run.count as usize;
     }
 }

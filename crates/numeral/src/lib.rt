@@ -1,143 +1,87 @@
-// Numbers in a text, as the Rust's u32::from_str and u32::from_str_radix read them: one reader over the base, and a faster one of decimals.
+// Numbers in a text, as the Rust's u32::from_str and u32::from_str_radix read them: a plain reader over the base, and a faster one of decimals.
 #![tactic(auto)]
 
-ghost use Rattle.std.specs.Prelude.{◌≡◌, ◌+◌, ◌≤◌, length, drop, ◌≢◌, slice_index};
-ghost use Rattle.numeral.specs.Number.{digit_of, read_on, number_of};
+ghost use Rattle.std.specs.Prelude.{◌≡◌, ℕ, ◌≤◌, not, ◌==◌, length, position, option_and_then};
+ghost use Rattle.numeral.specs.Number.{read_on, number_of};
 
-#[derive(Clone, Copy)]
-pub enum Number {
-    Value(u32),
-    Bad,
-}
-
-// A byte's value as a digit, in either case; 99 for no digit.
-fn digit(c: u8) -> u64
-    ensures { result ≡ digit_of c }
+// The digits of a number: one `+` may stand before them, and there is at least one.
+#[tactic(auto, using(crate::proofs::Reading::signs))]
+fn unsigned(s: &[u8]) -> Option<&[u8]>
+    ensures { (base : ℕ) → number_of base s.now ≡ option_and_then (λ digits. read_on base digits.now 0) result }
 {
-    if c < b'0' {
-        99
-    } else if c <= b'9' {
-        (c - b'0') as u64
-    } else if c < b'A' {
-        99
-    } else if c <= b'F' {
-        (c - b'A' + 10) as u64
-    } else if c < b'a' {
-        99
-    } else if c <= b'f' {
-        (c - b'a' + 10) as u64
-    } else {
-        99
+    match s {
+        [] => None, // no digit at all
+        [b'+'] => None,
+        [b'+', digits @ ..] => Some(digits),
+        digits => Some(digits),
     }
 }
 
-// The digits from a place to the end.
-fn digits(s: &[u8], from: usize, base: u64) -> Number
-    requires { base ≤ 16 }
-    ensures { result ≡ read_on base (drop from s.now) 0 }
+// Digits in a base, 16 where the code calls it: `read_few` has the decimal ones. The value stays below 2^32 throughout.
+#[tactic(auto, using(crate::proofs::Reading::turns))]
+fn read(digits: &[u8], base: u32) -> Option<u32>
+    requires low { 2 ≤ base }
+    requires high { base ≤ 16 }
+    ensures { result ≡ read_on base digits.now 0 }
 {
-    let mut v: u64 = 0;
-    let mut i = from;
-    while i < s.len() {
-        let d = digit(s[i]);
-        if base <= d {
-            return Number::Bad;
-        }
-        let w = v * base + d;
-        if 4294967295 < w {
-            return Number::Bad;
-        }
-        v = w;
-        i += 1;
+    let mut value: u32 = 0;
+    for byte in digits {
+        let digit = char::from(*byte).to_digit(base)?;
+        value = value.checked_mul(base)?.checked_add(digit)?;
     }
-    Number::Value(v as u32)
+    Some(value)
 }
 
-// One `+` may stand before the digits, of which there is at least one.
-fn read(s: &[u8], base: u64) -> Number
-    requires { base ≤ 16 }
-    ensures { result ≡ number_of base s.now }
+// Ten decimal digits at most. They can't exceed 64 bits: the value is tested once, after the last.
+#[tactic(auto, using(crate::proofs::Decimals::turns))]
+fn read_few(digits: &[u8]) -> Option<u32>
+    requires { length digits.now ≤ 10 }
+    ensures { result ≡ read_on 10 digits.now 0 }
 {
-    if s.len() == 0 {
-        return Number::Bad;
-    }
-    if s[0] == b'+' {
-        if s.len() == 1 {
-            return Number::Bad;
-        }
-        return digits(s, 1, base);
-    }
-    digits(s, 0, base)
-}
-
-// The first place from another on that holds no `0`, or the end.
-fn past_zeros(s: &[u8], from: usize) -> usize
-    requires { from ≤ length s.now }
-    ensures { (result ≤ length s.now) × (read_on 10 (drop result s.now) 0 ≡ read_on 10 (drop from s.now) 0) × (slice_index s.now result ≢ 48) }
-{
-    let mut i = from;
-    while i < s.len() {
-        if s[i] != b'0' {
-            return i;
-        }
-        i += 1;
-    }
-    i
-}
-
-// Ten digits at most, from a place to the end. They can't exceed 64 bits: the value is tested once, after the last.
-fn few_digits(s: &[u8], from: usize) -> Number
-    requires { length s.now ≤ from + 10 }
-    ensures { result ≡ read_on 10 (drop from s.now) 0 }
-{
-    let mut v: u64 = 0;
-    let mut i = from;
-    while i < s.len() {
+    let mut value: u64 = 0;
+    for byte in digits {
         // A byte before `0` wraps to far above 9: one test tells a digit.
-        let d = std::num::wrapping_sub_u64(s[i] as u64, 48);
-        if 9 < d {
-            return Number::Bad;
+        let digit = u64::from(*byte).wrapping_sub(48);
+        if 9 < digit {
+            return None;
         }
-        v = v * 10 + d;
-        i += 1;
+        value = value * 10 + digit;
     }
-    if 4294967295 < v {
-        return Number::Bad;
-    }
-    Number::Value(v as u32)
+    u32::try_from(value).ok()
 }
 
-// Decimal digits from a place to the end. Eleven that don't begin with a zero are no number below 2^32, whatever they are.
-fn decimal_digits(s: &[u8], from: usize) -> Number
-    requires { from ≤ length s.now }
-    ensures { result ≡ read_on 10 (drop from s.now) 0 }
+// Where the first byte is that is no zero.
+fn past_zeros(digits: &[u8]) -> Option<usize>
+    ensures { result ≡ position (λ byte. not (byte == 48)) digits.now }
 {
-    let first = past_zeros(s, from);
-    if 10 < s.len() - first {
-        return Number::Bad;
+    digits.iter().position(|byte| *byte != b'0')
+}
+
+// Decimal digits. Eleven that don't begin with a zero are no number below 2^32, whatever they are.
+#[tactic(auto, using(crate::proofs::Decimals::zeros))]
+fn read_decimal(digits: &[u8]) -> Option<u32>
+    ensures { result ≡ read_on 10 digits.now 0 }
+{
+    let Some(first) = past_zeros(digits) else {
+        return Some(0);
+    };
+    let digits = &digits[first..];
+    if 10 < digits.len() {
+        return None;
     }
-    few_digits(s, first)
+    read_few(digits)
 }
 
 // A decimal number, in one pass: its answers are the plain reader's.
-pub fn decimal(s: &[u8]) -> Number
+pub fn decimal(s: &[u8]) -> Option<u32>
     ensures { result ≡ number_of 10 s.now }
 {
-    if s.len() == 0 {
-        return Number::Bad; // no digit at all
-    }
-    if s[0] != b'+' {
-        return decimal_digits(s, 0);
-    }
-    if s.len() == 1 {
-        return Number::Bad;
-    }
-    decimal_digits(s, 1)
+    read_decimal(unsigned(s)?)
 }
 
 // A hexadecimal number, without the `0x`.
-pub fn hex(s: &[u8]) -> Number
+pub fn hex(s: &[u8]) -> Option<u32>
     ensures { result ≡ number_of 16 s.now }
 {
-    read(s, 16)
+    read(unsigned(s)?, 16)
 }

@@ -1,12 +1,6 @@
 -- The papers' covering pages and their block count are ours. Assumes nothing.
-use Prim.Native.Nat.{ℕ, zero, suc, ◌+◌, ◌-◌, ◌*◌, ◌/◌, ◌%◌, ◌<◌, min}
-use native.Mathlib.Nat.{mod-lt, div-add-mod'}
-use native.Mathlib.Omega.{arith}
-use mathlib.Core.Path.{◌≡◌, refl, ap, sym, ◌∙◌}
-use mathlib.Core.Bool.{Bool, true, false}
-use mathlib.Core.List.{List, [], ◌∷◌}
-use lib.Dec.{eqb, ltb}
-use borrow.Author.Tests.{eqb-true, eqb-false, ltb-true, ltb-false}
+use Rattle.std.proofs.Common.{ℕ, zero, suc, ◌+◌, ◌-◌, ◌*◌, ◌/◌, ◌%◌, ◌<◌, min, mod-lt, div-add-mod', arith, ◌≡◌, refl, ap, sym, ◌∙◌, Bool, true, false, List, [], ◌∷◌, eqb, ltb, eqb-true, ltb-true, ltb-false}
+use borrow.Author.Tests.{eqb-false}
 use Rattle.ground.specs.Pick.{pick}
 use Rattle.papers.specs.Plan.{leading, pages_for, blocks_for}
 use Rattle.work.specs.Work.{block_count}

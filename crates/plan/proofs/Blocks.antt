@@ -1,10 +1,5 @@
 -- The bytes of the blocks: each of the firmware's once, in order. Assumes nothing.
-use Prim.Native.Nat.{ℕ, zero, suc, ◌+◌, ◌-◌, ◌*◌, ◌<◌}
-use native.Mathlib.Omega.{arith}
-use mathlib.Core.Path.{◌≡◌, ap, sym, ◌∙◌}
-use mathlib.Core.List.{List, ◌++◌}
-use lib.ListN.{length, drop, take-append-drop, drop_of_length-le}
-use lib.Seq.{drop-drop}
+use Rattle.std.proofs.Common.{ℕ, zero, suc, ◌+◌, ◌-◌, ◌*◌, ◌<◌, arith, ◌≡◌, ap, sym, ◌∙◌, List, ◌++◌, length, drop, take-append-drop, drop_of_length-le, drop-drop}
 use Rattle.papers.specs.Plan.{several, bytes_of, blocks_for, joined}
 use Rattle.work.specs.Work.{block_count}
 use Rattle.work.proofs.Fills.{block_count_none, block_count_next}

@@ -1,9 +1,5 @@
 -- The wire is what the papers say; and what start doesn't look at decides nothing. Assumes nothing.
-use Prim.Native.Nat.{ℕ, ◌/◌, ◌%◌}
-use mathlib.Core.Path.{◌≡◌, refl, ap, ◌∙◌}
-use mathlib.Core.Bool.{Bool}
-use mathlib.Core.List.{List, [], ◌∷◌}
-use native.Mathlib.Omega.{arith}
+use Rattle.std.proofs.Common.{Option, ℕ, ◌/◌, ◌%◌, ◌≡◌, refl, ap, ◌∙◌, Bool, List, [], ◌∷◌, arith}
 use Rattle.ground.specs.Bytes.{bytes_low}
 use Rattle.ground.specs.declared.Version.{Version}
 use Rattle.papers.specs.Requests.{DFU_DNLOAD, DFU_GETSTATUS, DFU_CLRSTATUS}
@@ -13,7 +9,6 @@ use Rattle.protocol.specs.declared.DfuProtocol.{DfuProtocol}
 use Rattle.wire.specs.Wire.{wire_of, filled_for, request_data}
 use Rattle.wire.specs.declared.Command.{Command}
 use Rattle.wire.specs.declared.Request.{Request}
-use Rattle.start.specs.declared.Override.{Override}
 use Rattle.start.specs.Start.{begin_of}
 use Rattle.plan.specs.Sent.{carried, taken}
 
@@ -62,7 +57,7 @@ seen d u t v tolerant detach size = record {
   dfu_version = v;
 }
 
-pub ignores : (d u d' u' : Bool) (t t' : ℕ) (v v' : Version) (tolerant detach : Bool) (size : ℕ) (o : Override) (p : DfuProtocol) (n pages budget : ℕ)
+pub ignores : (d u d' u' : Bool) (t t' : ℕ) (v v' : Version) (tolerant detach : Bool) (size : ℕ) (o : Option ℕ) (p : DfuProtocol) (n pages budget : ℕ)
     → begin_of (record { descriptor = seen d u t v tolerant detach size; override_address = o }) p n pages budget
     ≡ begin_of (record { descriptor = seen d' u' t' v' tolerant detach size; override_address = o }) p n pages budget
 unfolding begin_of

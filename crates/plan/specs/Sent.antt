@@ -1,7 +1,8 @@
 -- The download requests of a run on the wire, and the plan of start's own arguments.
-use Rattle.std.specs.Prelude.{ℕ, ◌≡◌, List, [], length}
+use Rattle.std.specs.Prelude.{ℕ, ◌≡◌, List, [], length, Ok}
 use Rattle.papers.specs.Requests.{SetupPacket, packet}
 use Rattle.papers.specs.Plan.{Dnload, plan}
+use Rattle.protocol.specs.Interface.{dfuseb}
 use Rattle.protocol.specs.declared.DfuProtocol.{DfuProtocol}
 use Rattle.wire.specs.declared.Command.{Command}
 use Rattle.wire.specs.declared.Control.{Control}
@@ -9,8 +10,7 @@ use Rattle.wire.specs.Wire.{wire_of, filled_for, request_data}
 use Rattle.wire.specs.declared.Request.{Request}
 use Rattle.session.specs.declared.Session.{Session}
 use Rattle.start.specs.declared.DfuSansIo.{DfuSansIo}
-use Rattle.start.specs.Start.{dfuseb, target_of, begin_of}
-use Rattle.start.specs.declared.Started.{Started}
+use Rattle.start.specs.Start.{target_of, begin_of}
 
 -- our control transfers as setup packets, with both lengths: the bytes that they carry, and beside the packet those that they take; and the other way round
 abbrev pub carried : Control → SetupPacket × ℕ
@@ -29,4 +29,4 @@ plan_of io p firmware pages = plan (dfuseb p) (target_of p io.override_address) 
 
 -- start begins a session, or has finished it at once
 abbrev pub Begins : DfuSansIo → DfuProtocol → List ℕ → List ℕ → ℕ → Session → Type 0
-Begins io p firmware pages budget s = begin_of io p (length firmware) (length pages) budget ≡ Started.Session s
+Begins io p firmware pages budget s = begin_of io p (length firmware) (length pages) budget ≡ Ok s

@@ -1,9 +1,5 @@
 -- Any work that thrives finishes, with a fair device and the budget. Assumes nothing.
-use Prim.Native.Nat.{ℕ, suc, ◌+◌, ◌*◌, ◌≤◌}
-use native.Mathlib.Omega.{arith}
-use mathlib.Core.Path.{◌≡◌, ap, sym, subst}
-use mathlib.Core.List.{List}
-use lib.ListN.{length}
+use Rattle.std.proofs.Common.{ℕ, suc, ◌+◌, ◌*◌, ◌≤◌, arith, ◌≡◌, ap, sym, subst, List, length}
 use Rattle.promises.specs.Words.{Command, Setup, Progress, End, Work, Phase, Answer, mk, told}
 use Rattle.promises.specs.Run.{World, opened, after, transfers, cleared, Unrefused, Over}
 use Rattle.promises.specs.Fair.{heeded, Fair, bound}

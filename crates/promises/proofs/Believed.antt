@@ -1,19 +1,13 @@
 -- Any work: a run that isn't refused was told no error, each reply but the first had 6 bytes or more and status 0; and each block was taken whole. Assumes nothing.
-use Prim.Native.Nat.{ℕ}
-use mathlib.Core.Path.{◌≡◌, refl}
-use mathlib.Core.Bool.{Bool, true, false}
-use mathlib.Core.List.{List, [], ◌∷◌}
-use lib.Dec.{eqb, ltb}
-use lib.ListN.{length}
-use borrow.Author.Tests.{ltb-false, eqb-true}
+use Rattle.std.proofs.Common.{ℕ, ◌≡◌, refl, Bool, true, false, List, [], ◌∷◌, eqb, ltb, length, ltb-false, eqb-true, Ok, Err}
 use Rattle.get_status.specs.Names.{status_byte}
 use Rattle.get_status.specs.Reply.{message_of, strict}
 use Rattle.get_status.specs.declared.GetStatusMessage.{GetStatusMessage}
-use Rattle.get_status.specs.declared.Reply.{Reply}
+use Rattle.get_status.specs.declared.Error.{Error as ReplyError}
 use Rattle.work.specs.Work.{wait_after, whole_of, takenb}
 use Rattle.machine.specs.Machine.{to, refuse, on_count, later_reply, reading}
 use Rattle.session.specs.Told.{told_at}
-use Rattle.promises.specs.Words.{pick, Command, Setup, Progress, Wait, Error, Work, Phase, Moved, Session, Answer, count, reply, waited, was_reset, failed, told}
+use Rattle.promises.specs.Words.{pick, Command, Setup, Progress, Wait, Error, Work, Phase, Moved, Session, Answer, count, reply, told}
 use Rattle.promises.specs.Run.{World, tell, after, after_by, Unrefused, Over, Taken}
 use Rattle.promises.specs.Believed.{Sound, SoundAt, WholeAt, AllAtBy, AllSound, AllWhole}
 use Rattle.promises.proofs.Counted.{true_taken}
@@ -25,32 +19,18 @@ read_sound pr l bs f u = by (ltb (length bs) 6) refl u
     m : GetStatusMessage
     m = message_of bs
 
-    status : (c : Bool) → eqb (status_byte m.status) 0 ≡ c → Unrefused (reading pr l (pick c (Reply.Read m) (Reply.StatusError m.status)) f).phase → status_byte m.status ≡ 0
+    status : (c : Bool) → eqb (status_byte m.status) 0 ≡ c → Unrefused (reading pr l (pick c (Ok m) (Err (ReplyError.StatusError m.status))) f).phase → status_byte m.status ≡ 0
     status true e v = eqb-true _ _ e
     status false e v = absurd v
 
-    by : (b : Bool) → ltb (length bs) 6 ≡ b → Unrefused (reading pr l (strict (pick b (Reply.ResponseTooShort (length bs)) (Reply.Read m))) f).phase → Sound (reply bs)
+    by : (b : Bool) → ltb (length bs) 6 ≡ b → Unrefused (reading pr l (strict (pick b (Err (ReplyError.ResponseTooShort (length bs))) (Ok m))) f).phase → Sound (reply bs)
     by true e v = absurd v
     by false e v = (ltb-false _ _ e, status (eqb (status_byte m.status) 0) refl v)
 
 step_sound : (w : Work) (su : Setup) (pr : Progress) (l : ℕ) (p : Phase) (a : Answer) → Unrefused (told_at w su pr l p a).next.phase → SoundAt p a
-step_sound w su pr l Phase.First a u = tt
-step_sound w su pr l Phase.Clear a u = tt
-step_sound w su pr l Phase.Second (count n) u = tt
 step_sound w su pr l Phase.Second (reply bs) u = read_sound pr l bs _ u
-step_sound w su pr l Phase.Second waited u = tt
-step_sound w su pr l Phase.Second was_reset u = tt
-step_sound w su pr l Phase.Second failed u = tt
-step_sound w su pr l (Phase.Sent c) a u = tt
-step_sound w su pr l (Phase.Waiting (Wait.Pause b t ms)) a u = tt
-step_sound w su pr l (Phase.Waiting (Wait.Poll b t)) (count n) u = tt
 step_sound w su pr l (Phase.Waiting (Wait.Poll b t)) (reply bs) u = read_sound pr l bs _ u
-step_sound w su pr l (Phase.Waiting (Wait.Poll b t)) waited u = tt
-step_sound w su pr l (Phase.Waiting (Wait.Poll b t)) was_reset u = tt
-step_sound w su pr l (Phase.Waiting (Wait.Poll b t)) failed u = tt
-step_sound w su pr l Phase.Resetting a u = tt
-step_sound w su pr l (Phase.Finished e) a u = tt
-step_sound w su pr l (Phase.Refused e) a u = tt
+step_sound w su pr l p a u = tt
 
 -- a count after which the session isn't refused
 count_whole : (su : Setup) (pr then : Progress) (l : ℕ) (c : Command) (n : ℕ) → Unrefused (on_count su pr l c then n).phase → Taken c n
@@ -61,29 +41,13 @@ count_whole su pr then l c n u = by (takenb c n) refl u
     by false e v = absurd v
 
 step_whole : (w : Work) (su : Setup) (pr : Progress) (l : ℕ) (p : Phase) (a : Answer) → Unrefused (told_at w su pr l p a).next.phase → WholeAt p a
-step_whole w su pr l Phase.First a u = tt
-step_whole w su pr l Phase.Clear a u = tt
-step_whole w su pr l Phase.Second a u = tt
 step_whole w su pr l (Phase.Sent c) (count n) u = count_whole su pr (w.took su pr c n) l c n u
-step_whole w su pr l (Phase.Sent c) (reply bs) u = tt
-step_whole w su pr l (Phase.Sent c) waited u = tt
-step_whole w su pr l (Phase.Sent c) was_reset u = tt
-step_whole w su pr l (Phase.Sent c) failed u = tt
-step_whole w su pr l (Phase.Waiting x) a u = tt
-step_whole w su pr l Phase.Resetting a u = tt
-step_whole w su pr l (Phase.Finished e) a u = tt
-step_whole w su pr l (Phase.Refused e) a u = tt
+step_whole w su pr l p a u = tt
 
 -- a session that isn't refused never was
 step_back : (w : Work) (su : Setup) (pr : Progress) (l : ℕ) (p : Phase) (a : Answer) → Unrefused (told_at w su pr l p a).next.phase → Unrefused p
-step_back w su pr l Phase.First a u = tt
-step_back w su pr l Phase.Clear a u = tt
-step_back w su pr l Phase.Second a u = tt
-step_back w su pr l (Phase.Sent c) a u = tt
-step_back w su pr l (Phase.Waiting x) a u = tt
-step_back w su pr l Phase.Resetting a u = tt
-step_back w su pr l (Phase.Finished e) a u = tt
 step_back w su pr l (Phase.Refused e) a u = u
+step_back w su pr l p a u = tt
 
 run_back : (w : Work) (x : World) (more : List Answer) → Unrefused (after w x more).session.phase → Unrefused x.session.phase
 unfolding after_by told
@@ -111,11 +75,5 @@ pub unrefused_whole : (w : Work) (x : World) (more : List Answer) → Unrefused 
 unrefused_whole w x more u = unrefused_all WholeAt w (step_whole w) x more u
 
 pub over_unrefused : (p : Phase) → Over p → Unrefused p
-over_unrefused Phase.First o = tt
-over_unrefused Phase.Clear o = tt
-over_unrefused Phase.Second o = tt
-over_unrefused (Phase.Sent c) o = tt
-over_unrefused (Phase.Waiting x) o = tt
-over_unrefused Phase.Resetting o = tt
-over_unrefused (Phase.Finished e) o = tt
 over_unrefused (Phase.Refused e) o = o
+over_unrefused p o = tt

@@ -1,13 +1,8 @@
 -- A run over the calls is the run of the definitions; what is lent in between changes nothing of the spend or of an end. Assumes nothing.
-use Prim.Native.Nat.{ℕ, ◌+◌}
-use mathlib.Core.Path.{◌≡◌, refl, ap, sym, subst, ◌∙◌}
-use mathlib.Core.Bool.{Bool, false, true≢false}
-use mathlib.Core.List.{List, [], ◌∷◌, ◌++◌}
-use lib.ListN.{length}
+use Rattle.std.proofs.Common.{ℕ, ◌+◌, ◌≡◌, refl, ap, sym, subst, ◌∙◌, Bool, false, List, [], ◌∷◌, ◌++◌, length, Result, Ok, Err}
 use Rattle.ground.proofs.Tests.{picked}
 use Rattle.machine.specs.Machine.{asks_at, liveb}
 use Rattle.session.specs.Calls.{as_at_start, guard_of, through, called, Outcome, out, filled, call_of}
-use Rattle.session.specs.declared.Guard.{Guard}
 use Rattle.plan.proofs.Unfilled.{ended_fills}
 use Rattle.promises.specs.Words.{pick, Error, download, Phase, Ask, Session, Answer, told}
 use Rattle.promises.specs.Run.{Event, sent_by, World, tell, transfers}
@@ -16,14 +11,8 @@ use Rattle.promises.proofs.Spends.{tell_adds}
 
 -- an ended session asks for nothing
 ended_silent : (p : Phase) → liveb p ≡ false → sent_by (asks_at p) ≡ []
-ended_silent Phase.First e = absurd (true≢false e)
-ended_silent Phase.Clear e = absurd (true≢false e)
-ended_silent Phase.Second e = absurd (true≢false e)
-ended_silent (Phase.Sent c) e = absurd (true≢false e)
-ended_silent (Phase.Waiting x) e = absurd (true≢false e)
-ended_silent Phase.Resetting e = absurd (true≢false e)
 ended_silent (Phase.Finished x) e = refl
-ended_silent (Phase.Refused x) e = refl
+ended_silent p e = cc
 
 -- what holds of the told answer, and of the world as it was, holds of a call
 pub call_picked : (P : World → Type 0) (x : World) (c : Call) → P (tell (download c.pages) x c.answer) → P x → P (call x c)
@@ -33,7 +22,7 @@ call_picked P x c t v =
     (λ e. picked Q (as_at_start x.session.setup (length c.firmware) (length c.pages) (length c.command)) _ _ (λ f. t) (λ f. v))
     (λ e. subst (λ (h : List Event). P (record { session = x.session; past = h ++ x.past })) (sym (ended_silent x.session.phase e)) v)
   where
-    Q : Guard → Type 0
+    Q : Result Unit Ask → Type 0
     Q g = P
         (record {
           session = (through g x.session (told (download c.pages) x.session c.answer)).next;
@@ -57,7 +46,7 @@ spend x more n v =
 pub ended_answers : (s : Session) (c : Call) → liveb s.phase ≡ false → outcome s c ≡ out (record { next = s; says = asks_at s.phase }) c.command
 unfolding call_of called guard_of
 ended_answers s c e =
-    ap (λ (b : Bool). filled (through (pick b (pick (as_at_start s.setup (length c.firmware) (length c.pages) (length c.command)) Guard.Open (Guard.Shut (Ask.Refused Error.NotAsAtStart))) (Guard.Shut (asks_at s.phase))) s (told (download c.pages) s c.answer)) c.command) e
+    ap (λ (b : Bool). filled (through (pick b (pick (as_at_start s.setup (length c.firmware) (length c.pages) (length c.command)) (Ok tt) (Err (Ask.Refused Error.NotAsAtStart))) (Err (asks_at s.phase))) s (told (download c.pages) s c.answer)) c.command) e
     ∙ ap (λ (x : List ℕ). out (record { next = s; says = asks_at s.phase }) x) (ended_fills s.phase c.command e)
 
 pub ended_stays : (s : Session) (more : List Call) (os : List Outcome) → liveb s.phase ≡ false → Allowed s more os

@@ -1,18 +1,12 @@
 -- A session clears at most once. Assumes nothing.
-use Prim.Native.Nat.{ℕ, ◌≤◌}
-use native.Mathlib.Omega.{arith}
-use mathlib.Core.Path.{◌≡◌, refl, subst, sym}
-use mathlib.Core.Logic.{⊎_elim}
-use mathlib.Core.List.{List, ◌++◌}
-use lib.Dec.{eqb}
-use lib.ListN.{length}
+use Rattle.std.proofs.Common.{ℕ, ◌≤◌, arith, ◌≡◌, refl, List, ◌++◌, eqb, length, Result, Ok, Err}
 use Rattle.ground.proofs.Tests.{picked}
 use Rattle.work.specs.Work.{wait_after}
 use Rattle.plan.specs.Sent.{Begins}
-use Rattle.promises.specs.Words.{DfuProtocol, Command, Setup, Progress, Todo, Work, download, Session, Answer, DfuSansIo, setup_of, Phase}
+use Rattle.promises.specs.Words.{DfuProtocol, Command, Setup, Progress, Todo, Work, download, Session, Answer, DfuSansIo, setup_of, Phase, Error}
 use Rattle.promises.specs.Run.{Event, opened, after, cleared, sent_by}
 use Rattle.promises.proofs.Walk.{Claims, Holds, Wished, WaitingAt, Good, run_always, either_end}
-use Rattle.promises.proofs.Started.{started}
+use Rattle.promises.proofs.Started.{started_holds}
 use Rattle.machine.specs.Machine.{asks_at}
 
 abbrev once : Claims
@@ -33,15 +27,13 @@ module _ (w : Work) (su : Setup) where
   begins : (c : Command) (n : ℕ) (pr : Progress) (l : ℕ) (h : List Event) → cleared h ≤ 1 → WaitingAt w su once (wait_after su c n) pr l (sent_by (asks_at (Phase.Waiting (wait_after su c n))) ++ h)
   unfolding cleared
   begins (Command.Erase a) k pr l h v = v
-  begins (Command.SetAddress a) k pr l h v = v
-  begins (Command.Block n f m) k pr l h v = v
-  begins (Command.Empty n) k pr l h v = v
+  begins c k pr l h v = v
 
-  wished : (pr : Progress) (l : ℕ) (h : List Event) (t : Todo) → cleared h ≤ 1 → Wished w su once pr l h t
+  wished : (pr : Progress) (l : ℕ) (h : List Event) (t : Result Todo Error) → cleared h ≤ 1 → Wished w su once pr l h t
   unfolding cleared
-  wished pr l h (Todo.Send c then) v = λ m e. (v, λ n f. begins c n (w.took su then c n) m _ v)
-  wished pr l h (Todo.End e) v = either_end w su once pr l h e v v
-  wished pr l h (Todo.Refuse e) v = v
+  wished pr l h (Ok (Todo.Send c then)) v = λ m e. (v, λ n f. begins c n (w.took su then c n) m _ v)
+  wished pr l h (Ok (Todo.End e)) v = either_end w su once pr l h e v v
+  wished pr l h (Err e) v = v
 
   holds : Holds w su once
   unfolding cleared
@@ -72,13 +64,8 @@ pub clears_once : (io : DfuSansIo) (p : DfuProtocol) (fw ps : List ℕ) (budget 
     → cleared (after (download ps) (opened s) more).past ≤ 1
 unfolding cleared
 clears_once io p fw ps budget s more b =
-    let (l, e) = started io p fw ps budget s b in
-    let g : Good (download ps) su once (opened s) =
-    ⊎_elim
-    (λ q. subst (λ (x : Session). Good (download ps) su once (opened x)) (sym q) (record { setup = refl; holds = refl }))
-    (λ q. subst (λ (x : Session). Good (download ps) su once (opened x)) (sym q) (record { setup = refl; holds = omega arith }))
-    e in
-    run_always (download ps) su once (holds (download ps) su) (opened s) more g
+    run_always (download ps) su once (holds (download ps) su) (opened s) more
+    (started_holds (λ (x : Session). Good (download ps) su once (opened x)) io p fw ps budget s b (λ l. record { setup = refl; holds = refl }) (λ l. record { setup = refl; holds = omega arith }))
   where
     su : Setup
     su = setup_of io p (length fw) (length ps)

@@ -1,8 +1,5 @@
 -- Demand 3 over the calls themselves: at each one firmware, pages and command bytes are lent, and some may be refused by 24 or 25. Assumes nothing.
-use Prim.Native.Nat.{ℕ, ◌+◌, ◌<◌, ◌≤◌}
-use mathlib.Core.Path.{◌≡◌, ap, sym, subst, ◌∙◌}
-use mathlib.Core.List.{List, ◌++◌, map}
-use lib.ListN.{length}
+use Rattle.std.proofs.Common.{ℕ, ◌+◌, ◌<◌, ◌≤◌, ◌≡◌, ap, sym, subst, ◌∙◌, List, ◌++◌, map, length}
 use Rattle.papers.specs.Plan.{Dnload}
 use Rattle.plan.specs.Sent.{on_wire, plan_of, Begins}
 use Rattle.promises.specs.Words.{DfuProtocol, download, Session, DfuSansIo}

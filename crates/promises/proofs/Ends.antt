@@ -1,26 +1,20 @@
 -- How a run ends: as its work says that it ends. Assumes nothing.
-use Prim.Native.Nat.{ℕ, ◌+◌}
-use mathlib.Core.Path.{◌≡◌, refl, ap, ◌∙◌}
-use mathlib.Core.List.{List}
-use lib.Dec.{ltb}
-use lib.ListN.{length, get_or}
-use Rattle.ground.proofs.Tests.{picked}
-use Rattle.work.specs.Work.{limit, end_of}
-use Rattle.download.specs.Download.{end_for, erase_next, write_next, next_at, next_of}
-use Rattle.promises.specs.Words.{Setup, Progress, Stage, Todo, End, Work, Phase, Answer, mk}
+use Rattle.std.proofs.Common.{ℕ, ◌≡◌, refl, ap, ◌∙◌, List, Result, Ok}
+use Rattle.download.specs.Download.{end_for, next_at, next_of}
+use Rattle.promises.specs.Words.{Setup, Progress, Stage, Todo, End, Work, Phase, Answer, mk, Error}
 use Rattle.promises.specs.Run.{opened, after, Over}
 use Rattle.promises.specs.Finish.{EndsAs}
+use Rattle.promises.proofs.Wishes.{erase_picked, write_picked}
 use Rattle.promises.proofs.Walk.{Claims, Holds, run_over}
 use Rattle.promises.proofs.Lasting.{lasting, lasting_holds, OfWish, unit_waits}
 
 abbrev ending : End → Claims
 ending x = lasting (λ b t. Unit) (End.Reset ≡ x) (λ e. e ≡ x) (λ e. Unit)
 
-wish : (x : End) (t : Todo) → EndsAs x t → OfWish (λ b t. Unit) (End.Reset ≡ x) (λ e. e ≡ x) (λ e. Unit) t
-wish x (Todo.Send c then) v = tt
-wish x (Todo.End End.Stays) v = v
-wish x (Todo.End End.Reset) v = v
-wish x (Todo.Refuse e) v = tt
+wish : (x : End) (t : Result Todo Error) → EndsAs x t → OfWish (λ b t. Unit) (End.Reset ≡ x) (λ e. e ≡ x) (λ e. Unit) t
+wish x (Ok (Todo.End End.Stays)) v = v
+wish x (Ok (Todo.End End.Reset)) v = v
+wish x t v = tt
 
 module _ (w : Work) (su : Setup) (x : End) (law : (pr : Progress) → EndsAs x (w.next su pr)) where
   holds : Holds w su (ending x)
@@ -35,14 +29,8 @@ module _ (w : Work) (su : Setup) (x : End) (law : (pr : Progress) → EndsAs x (
 
 -- a download: the device stays if it is tolerant or will detach, else after the reset
 ends_at : (st : Stage) (ps : List ℕ) (su : Setup) (pr : Progress) → EndsAs (end_for su) (next_at st ps su pr)
-unfolding erase_next write_next
-ends_at Stage.Erasing ps su pr =
-    picked (EndsAs (end_for su)) (ltb pr.erased (end_of su)) _ _
-    (λ e. picked (EndsAs (end_for su)) (ltb pr.page (length ps)) _ _
-    (λ f. picked (EndsAs (end_for su)) (ltb (pr.erased + get_or ps pr.page 0) limit) _ _ (λ g. tt) (λ g. tt))
-    (λ f. tt))
-    (λ e. tt)
-ends_at Stage.Writing ps su pr = picked (EndsAs (end_for su)) (ltb pr.accepted su.length) _ _ (λ e. tt) (λ e. tt)
+ends_at Stage.Erasing ps su pr = erase_picked (EndsAs (end_for su)) ps su pr (λ e f. tt) (λ e f g. tt) (λ e f. tt) (λ e. tt)
+ends_at Stage.Writing ps su pr = write_picked (λ (t : Todo). EndsAs (end_for su) (Ok t)) su pr (λ e. tt) (λ e. tt)
 ends_at Stage.Ending ps su pr = refl
 
 pub download_ends : (ps : List ℕ) (su : Setup) (pr : Progress) → EndsAs (end_for su) (next_of ps su pr)

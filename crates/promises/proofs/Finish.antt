@@ -1,23 +1,19 @@
 -- With a fair device and the budget an update finishes. Assumes nothing.
-use Prim.Native.Nat.{ℕ, suc, ◌<◌, ◌≤◌}
-use native.Mathlib.Omega.{arith}
-use mathlib.Core.Path.{◌≡◌, refl, ap, sym, subst, ◌∙◌}
-use mathlib.Core.Bool.{Bool, false}
-use mathlib.Core.List.{List, map}
-use lib.Dec.{eqb, ltb}
-use lib.ListN.{length, length-map}
-use borrow.Author.Tests.{le-ltb, lt-leb, ne_eqb}
+use Rattle.std.proofs.Common.{ℕ, suc, ◌<◌, ◌≤◌, arith, ◌≡◌, refl, ap, sym, subst, ◌∙◌, Bool, false, List, map, eqb, ltb, length, le-ltb, ne_eqb}
+use lib.ListN.{length-map}
+use borrow.Author.Tests.{lt-leb}
 use Rattle.ground.proofs.Tests.{picked}
 use Rattle.papers.proofs.Count.{plan_length}
 use Rattle.work.specs.Work.{limit, end_of}
 use Rattle.download.specs.Download.{end_for}
-use Rattle.start.specs.Start.{dfuseb, nothingb, beyondb, overb, manyb, begun_of, begin_of}
+use Rattle.protocol.specs.Interface.{dfuseb}
+use Rattle.start.specs.Start.{nothingb, beyondb, overb, manyb, begun_of, begin_of}
 use Rattle.plan.specs.Sent.{on_wire, Begins}
 use Rattle.promises.specs.Words.{DfuProtocol, Setup, Work, download, Phase, Session, Answer, mk, told, DfuSansIo, setup_of, fresh}
 use Rattle.promises.specs.Run.{opened, after, transfers, cleared}
 use Rattle.promises.specs.Fair.{heeded, Fair, Ready, requests_of, bound}
 use Rattle.promises.specs.Finish.{FinishesIn, Finishes}
-use Rattle.promises.proofs.Started.{begun}
+use Rattle.promises.proofs.Started.{begun_holds}
 use Rattle.promises.proofs.Wanted.{left, wanted, fresh_wanted}
 use Rattle.promises.proofs.Onwire.{wanted_plan}
 use Rattle.promises.proofs.Roomy.{room, thrives, fresh_room}
@@ -59,14 +55,13 @@ module _ (io : DfuSansIo) (p : DfuProtocol) (fw ps : List ℕ) where
       → bound k (cleared (after (download ps) (opened s) more).past) (requests_of io p fw ps) ≤ budget → Finishes k io p fw ps s more
   unfolding transfers cleared
   finishes k budget s more r b =
-      let (l, z, e) = begun io p fw ps budget s r.some r.sized b in
-      subst
+      begun_holds
       (λ (x : Session).
       Fair k 0 (download ps) x (heeded (download ps) x more)
       → bound k (cleared (after (download ps) (opened x) more).past) (requests_of io p fw ps) ≤ budget
       → Finishes k io p fw ps x more)
-      (sym e)
-      (λ f m. from l z f m)
+      io p fw ps budget s r.some r.sized b
+      from
     where
       from : (l : ℕ) → budget ≡ suc l → Fair k 0 (download ps) (mk su (fresh su) l Phase.First) (heeded (download ps) (mk su (fresh su) l Phase.First) more)
           → bound k (cleared (after (download ps) (opened (mk su (fresh su) l Phase.First)) more).past) (requests_of io p fw ps) ≤ budget

@@ -1,20 +1,17 @@
 -- A run that finishes has sent the plan, and every run a leading part of it. Assumes nothing.
-use Prim.Native.Nat.{ℕ, ◌<◌}
-use mathlib.Core.Path.{◌≡◌, refl, ap, sym, subst, ◌∙◌}
-use mathlib.Core.List.{List, [], ◌∷◌, ◌++◌, append_assoc, append-nil, map, map-append}
-use lib.Dec.{eqb}
-use lib.ListN.{length}
+use Rattle.std.proofs.Common.{ℕ, ◌<◌, ◌≡◌, refl, ap, sym, ◌∙◌, List, [], ◌∷◌, ◌++◌, append_assoc, append-nil, map, eqb, length, Result, Ok, Err}
+use mathlib.Core.List.{map-append}
 use Rattle.ground.proofs.Tests.{picked}
 use Rattle.papers.specs.Plan.{Dnload}
 use Rattle.work.specs.Work.{wait_after}
 use Rattle.download.specs.Download.{next_of, took_of}
 use Rattle.plan.specs.Sent.{on_wire, plan_of, Begins}
-use Rattle.promises.specs.Words.{DfuProtocol, Command, Request, Setup, Progress, Todo, download, Phase, Session, Answer, mk, DfuSansIo, setup_of, fresh}
+use Rattle.promises.specs.Words.{DfuProtocol, Command, Request, Setup, Progress, Todo, download, Phase, Session, Answer, mk, DfuSansIo, setup_of, fresh, Error}
 use Rattle.promises.specs.Run.{Event, sends, opened, after, commanded, Over, sent_by}
 use Rattle.promises.proofs.Walk.{Claims, Holds, Wished, WaitingAt, Good, run_always, run_over, either_end}
 use Rattle.promises.proofs.Wanted.{left, Heads, heads, wanted, fresh_wanted}
 use Rattle.promises.proofs.Onwire.{wanted_plan}
-use Rattle.promises.proofs.Started.{begun}
+use Rattle.promises.proofs.Started.{begun_holds}
 use Rattle.machine.specs.Machine.{asks_at}
 
 -- what was commanded, and then what is still wanted, is all; what was commanded leads all
@@ -42,24 +39,22 @@ module _ (ps : List ℕ) (su : Setup) (all : List Command) where
   wait_so : (c : Command) (k : ℕ) (pr : Progress) (l : ℕ) (h : List Event) → So all h (left ps su pr) → WaitingAt (download ps) su (planned ps su all) (wait_after su c k) pr l (sent_by (asks_at (Phase.Waiting (wait_after su c k))) ++ h)
   unfolding commanded
   wait_so (Command.Erase a) k pr l h v = v
-  wait_so (Command.SetAddress a) k pr l h v = v
-  wait_so (Command.Block n f m) k pr l h v = v
-  wait_so (Command.Empty n) k pr l h v = v
+  wait_so c k pr l h v = v
 
-  wished : (pr : Progress) (l : ℕ) (h : List Event) (t : Todo) → Heads (download ps) (left ps su) su (left ps su pr) t → So all h (left ps su pr)
+  wished : (pr : Progress) (l : ℕ) (h : List Event) (t : Result Todo Error) → Heads (download ps) (left ps su) su (left ps su pr) t → So all h (left ps su pr)
       → Wished (download ps) su (planned ps su all) pr l h t
   unfolding commanded
-  wished pr l h (Todo.Send c then) e v =
+  wished pr l h (Ok (Todo.Send c then)) e v =
       let on : So all (sends (Request.Command c) ∷ h) (left ps su (took_of su then c)) =
       append_assoc (commanded h) (c ∷ []) (left ps su (took_of su then c)) ∙ ap (λ (x : List Command). commanded h ++ x) e ∙ v in
       λ m z. (
         (left ps su (took_of su then c), on),
         λ k f. wait_so c k (took_of su then c) m (sends (Request.Command c) ∷ h) on,
       )
-  wished pr l h (Todo.End x) e v =
+  wished pr l h (Ok (Todo.End x)) e v =
       let all_done : So all h [] = ap (λ (x : List Command). commanded h ++ x) e ∙ v in
       either_end (download ps) su (planned ps su all) pr l h x all_done all_done
-  wished pr l h (Todo.Refuse x) e v = (left ps su pr, v)
+  wished pr l h (Err x) e v = (left ps su pr, v)
 
   holds : 0 < su.size → Holds (download ps) su (planned ps su all)
   unfolding commanded
@@ -113,24 +108,22 @@ module _ (io : DfuSansIo) (p : DfuProtocol) (fw ps : List ℕ) (budget : ℕ) (s
       → Over (after (download ps) (opened s) more).session.phase
       → map (on_wire fw) (commanded (after (download ps) (opened s) more).past) ≡ plan_of io p fw ps
   finished_sends_the_plan h k b =
-      let (l, z, e) = begun io p fw ps budget s h k b in
-      subst
+      begun_holds
       (λ (x : Session).
       Over (after (download ps) (opened x) more).session.phase
       → map (on_wire fw) (commanded (after (download ps) (opened x) more).past) ≡ plan_of io p fw ps)
-      (sym e)
-      (λ o. ap (λ (x : List Command). map (on_wire fw) x) (ran_whole ps su l more k o) ∙ wanted_plan fw su ps refl k)
+      io p fw ps budget s h k b
+      (λ l z o. ap (λ (x : List Command). map (on_wire fw) x) (ran_whole ps su l more k o) ∙ wanted_plan fw su ps refl k)
 
   -- EVERY RUN HAS SENT A LEADING PART OF IT, refused ones too
   pub every_run_leads_the_plan : 0 < length fw → 0 < io.descriptor.transfer_size → Begins io p fw ps budget s
       → (rest : List Dnload) × (map (on_wire fw) (commanded (after (download ps) (opened s) more).past) ++ rest ≡ plan_of io p fw ps)
   every_run_leads_the_plan h k b =
-      let (l, z, e) = begun io p fw ps budget s h k b in
-      subst
+      begun_holds
       (λ (x : Session).
       (rest : List Dnload) × (map (on_wire fw) (commanded (after (download ps) (opened x) more).past) ++ rest ≡ plan_of io p fw ps))
-      (sym e)
-      (let (rest, v) = ran_part ps su l more k in (
+      io p fw ps budget s h k b
+      (λ l z. let (rest, v) = ran_part ps su l more k in (
         map (on_wire fw) rest,
         sym (map-append (on_wire fw) (commanded (after (download ps) (opened (mk su (fresh su) l Phase.First)) more).past) rest)
             ∙ ap (λ (x : List Command). map (on_wire fw) x) v

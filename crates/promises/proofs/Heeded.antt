@@ -1,10 +1,7 @@
 -- Answers that are refused by 24 change nothing of a run. Assumes nothing.
-use Prim.Native.Nat.{ℕ}
-use mathlib.Core.Path.{◌≡◌, refl, ap, ◌∙◌}
-use mathlib.Core.Bool.{Bool, true, false, true≢false}
-use mathlib.Core.List.{List, [], ◌∷◌, ◌++◌}
+use Rattle.std.proofs.Common.{ℕ, ◌≡◌, refl, ap, ◌∙◌, Bool, true, false, List, [], ◌∷◌, ◌++◌}
 use Rattle.session.specs.Told.{told_at}
-use Rattle.promises.specs.Words.{pick, Setup, Progress, Wait, Work, Phase, Answer, count, reply, waited, was_reset, failed, mk, told}
+use Rattle.promises.specs.Words.{pick, Setup, Progress, Wait, Work, Phase, Answer, reply, waited, mk, told}
 use Rattle.promises.specs.Run.{Event, sent_by, heard_at, World, tell, after, after_by}
 use Rattle.promises.specs.Fair.{awaited, heeded, heeded_by}
 
@@ -16,43 +13,9 @@ world_at su pr l p h = record { session = mk su pr l p; past = h }
 
 unawaited_at : (w : Work) (su : Setup) (pr : Progress) (l : ℕ) (p : Phase) (h : List Event) (a : Answer) → awaited p a ≡ false
     → world_told w su pr l p h a ≡ world_at su pr l p h
-unawaited_at w su pr l Phase.First h (count n) e = refl
-unawaited_at w su pr l Phase.First h (reply bs) e = absurd (true≢false e)
-unawaited_at w su pr l Phase.First h waited e = refl
-unawaited_at w su pr l Phase.First h was_reset e = refl
-unawaited_at w su pr l Phase.First h failed e = absurd (true≢false e)
-unawaited_at w su pr l Phase.Clear h (count n) e = absurd (true≢false e)
-unawaited_at w su pr l Phase.Clear h (reply bs) e = refl
-unawaited_at w su pr l Phase.Clear h waited e = refl
-unawaited_at w su pr l Phase.Clear h was_reset e = refl
-unawaited_at w su pr l Phase.Clear h failed e = absurd (true≢false e)
-unawaited_at w su pr l Phase.Second h (count n) e = refl
-unawaited_at w su pr l Phase.Second h (reply bs) e = absurd (true≢false e)
-unawaited_at w su pr l Phase.Second h waited e = refl
-unawaited_at w su pr l Phase.Second h was_reset e = refl
-unawaited_at w su pr l Phase.Second h failed e = absurd (true≢false e)
-unawaited_at w su pr l (Phase.Sent c) h (count n) e = absurd (true≢false e)
-unawaited_at w su pr l (Phase.Sent c) h (reply bs) e = refl
-unawaited_at w su pr l (Phase.Sent c) h waited e = refl
-unawaited_at w su pr l (Phase.Sent c) h was_reset e = refl
-unawaited_at w su pr l (Phase.Sent c) h failed e = absurd (true≢false e)
-unawaited_at w su pr l (Phase.Waiting (Wait.Pause b t ms)) h (count n) e = refl
-unawaited_at w su pr l (Phase.Waiting (Wait.Pause b t ms)) h (reply bs) e = refl
-unawaited_at w su pr l (Phase.Waiting (Wait.Pause b t ms)) h waited e = absurd (true≢false e)
-unawaited_at w su pr l (Phase.Waiting (Wait.Pause b t ms)) h was_reset e = refl
-unawaited_at w su pr l (Phase.Waiting (Wait.Pause b t ms)) h failed e = refl
-unawaited_at w su pr l (Phase.Waiting (Wait.Poll b t)) h (count n) e = refl
-unawaited_at w su pr l (Phase.Waiting (Wait.Poll b t)) h (reply bs) e = absurd (true≢false e)
-unawaited_at w su pr l (Phase.Waiting (Wait.Poll b t)) h waited e = refl
-unawaited_at w su pr l (Phase.Waiting (Wait.Poll b t)) h was_reset e = refl
-unawaited_at w su pr l (Phase.Waiting (Wait.Poll b t)) h failed e = absurd (true≢false e)
-unawaited_at w su pr l Phase.Resetting h (count n) e = refl
-unawaited_at w su pr l Phase.Resetting h (reply bs) e = refl
-unawaited_at w su pr l Phase.Resetting h waited e = refl
-unawaited_at w su pr l Phase.Resetting h was_reset e = absurd (true≢false e)
-unawaited_at w su pr l Phase.Resetting h failed e = absurd (true≢false e)
-unawaited_at w su pr l (Phase.Finished x) h a e = absurd (true≢false e)
-unawaited_at w su pr l (Phase.Refused x) h a e = absurd (true≢false e)
+unawaited_at w su pr l (Phase.Waiting (Wait.Pause b t ms)) h waited e = cc
+unawaited_at w su pr l p h (reply bs) e = cc
+unawaited_at w su pr l p h a e = cc
 
 unawaited : (w : Work) (x : World) (a : Answer) → awaited x.session.phase a ≡ false → tell w x a ≡ x
 unfolding told

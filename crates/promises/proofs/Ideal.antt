@@ -1,11 +1,5 @@
 -- There is a fair device: it shows each awaited state at once. So what the promise of finishing supposes can be met, for every k and at every length. Assumes nothing.
-use Prim.Native.Nat.{ℕ, zero, suc}
-use native.Mathlib.Nat.{le_refl}
-use mathlib.Core.Path.{◌≡◌, refl, ap, subst, sym}
-use mathlib.Core.Logic.{inl, ⊎_elim}
-use mathlib.Core.Bool.{true}
-use mathlib.Core.List.{List, [], ◌∷◌}
-use lib.ListN.{length}
+use Rattle.std.proofs.Common.{ℕ, zero, suc, le_refl, ◌≡◌, refl, ap, subst, sym, inl, true, List, [], ◌∷◌, length}
 use Rattle.ground.proofs.Tests.{picked}
 use Rattle.get_status.specs.Names.{state_of, state_byte, settled}
 use Rattle.get_status.specs.declared.State.{State}
@@ -18,7 +12,7 @@ use Rattle.promises.specs.Fair.{awaited, heeded, heeded_by, Fine, allowed, Fair,
 use Rattle.promises.proofs.Walk.{Claims, Holds, ClaimAt, Good, tell_good}
 use Rattle.promises.proofs.Lasting.{lasting, OfWait, lasting_holds, unit_wish}
 use Rattle.promises.proofs.Counted.{whole_taken}
-use Rattle.promises.proofs.Started.{started}
+use Rattle.promises.proofs.Started.{started_holds}
 
 -- its answers to n asks
 unfoldable pub ideals : Work → Session → ℕ → List Answer
@@ -34,10 +28,8 @@ sane = lasting (λ b t. Shown t) Unit (λ e. Unit) (λ e. Unit)
 
 module _ (w : Work) (su : Setup) where
   waits : (c : Command) (n : ℕ) → OfWait (λ b t. Shown t) Unit (λ e. Unit) (λ e. Unit) (wait_after su c n)
-  waits (Command.Erase a) k = refl
-  waits (Command.SetAddress a) k = refl
-  waits (Command.Block n f m) k = refl
   waits (Command.Empty n) k = picked Shown su.tolerant State.DfuIdle State.DfuManifest (λ e. refl) (λ e. refl)
+  waits c k = refl
 
   holds : Holds w su sane
   holds =
@@ -46,14 +38,10 @@ module _ (w : Work) (su : Setup) where
 
   fine : (j : ℕ) (p : Phase) (pr : Progress) (l : ℕ) (h : List Event) → ClaimAt w su sane p pr l h → Fine j p (ideal p)
   fine j Phase.First pr l h v = (le_refl _, tt)
-  fine j Phase.Clear pr l h v = tt
   fine j Phase.Second pr l h v = (le_refl _, (refl, refl))
   fine j (Phase.Sent c) pr l h v = whole_taken c
-  fine j (Phase.Waiting (Wait.Pause b t ms)) pr l h v = tt
   fine j (Phase.Waiting (Wait.Poll b t)) pr l h v = (le_refl _, (refl, inl v))
-  fine j Phase.Resetting pr l h v = tt
-  fine j (Phase.Finished e) pr l h v = tt
-  fine j (Phase.Refused e) pr l h v = tt
+  fine j p pr l h v = tt
 
   ideals_fair : (k j : ℕ) (x : World) (n : ℕ) → Good w su sane x → Fair k j w x.session (ideals w x.session n)
   unfolding FairBy ideals
@@ -67,15 +55,8 @@ module _ (w : Work) (su : Setup) where
 
 -- each of them is awaited
 ideal_awaited : (p : Phase) → awaited p (ideal p) ≡ true
-ideal_awaited Phase.First = refl
-ideal_awaited Phase.Clear = refl
-ideal_awaited Phase.Second = refl
-ideal_awaited (Phase.Sent c) = refl
-ideal_awaited (Phase.Waiting (Wait.Pause b t ms)) = refl
 ideal_awaited (Phase.Waiting (Wait.Poll b t)) = refl
-ideal_awaited Phase.Resetting = refl
-ideal_awaited (Phase.Finished e) = refl
-ideal_awaited (Phase.Refused e) = refl
+ideal_awaited p = refl
 
 ideals_heeded : (w : Work) (s : Session) (n : ℕ) → heeded w s (ideals w s n) ≡ ideals w s n
 unfolding heeded_by ideals
@@ -105,12 +86,8 @@ pub fair_answers : (k : ℕ) (io : DfuSansIo) (p : DfuProtocol) (fw ps : List �
 fair_answers k io p fw ps budget s n b =
     let w : Work = download ps in
     let su : Setup = setup_of io p (length fw) (length ps) in
-    let (l, e) = started io p fw ps budget s b in
     let g : Good w su sane (opened s) =
-    ⊎_elim
-    (λ q. subst (λ (x : Session). Good w su sane (opened x)) (sym q) (record { setup = refl; holds = tt }))
-    (λ q. subst (λ (x : Session). Good w su sane (opened x)) (sym q) (record { setup = refl; holds = tt }))
-    e in (
+    started_holds (λ (x : Session). Good w su sane (opened x)) io p fw ps budget s b (λ l. record { setup = refl; holds = tt }) (λ l. record { setup = refl; holds = tt }) in (
       ideals w s n,
       subst (λ (x : List Answer). Fair k 0 w s x) (sym (ideals_heeded w s n)) (ideals_fair w su k 0 (opened s) n g),
       subst (λ (x : List Answer). length x ≡ n) (sym (ideals_heeded w s n)) (ideals_length w s n),

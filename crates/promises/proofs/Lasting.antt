@@ -1,7 +1,5 @@
 -- Claims that no event changes: of the states of a wait, of a reset that is awaited, of an end, of a refusal. Assumes nothing.
-use Prim.Native.Nat.{ℕ}
-use mathlib.Core.List.{List, ◌++◌}
-use lib.Dec.{eqb}
+use Rattle.std.proofs.Common.{ℕ, List, ◌++◌, eqb, Result, Ok, Err}
 use Rattle.ground.proofs.Tests.{picked}
 use Rattle.get_status.specs.declared.State.{State}
 use Rattle.work.specs.Work.{wait_after}
@@ -33,10 +31,10 @@ module _ (W : State → State → Type 0) (R : Type 0) (F : End → Type 0) (D :
   OfEnd End.Stays = F End.Stays
   OfEnd End.Reset = R
 
-  abbrev pub OfWish : Todo → Type 0
-  OfWish (Todo.Send c then) = Unit
-  OfWish (Todo.End e) = OfEnd e
-  OfWish (Todo.Refuse e) = D e
+  abbrev pub OfWish : Result Todo Error → Type 0
+  OfWish (Ok (Todo.Send c then)) = Unit
+  OfWish (Ok (Todo.End e)) = OfEnd e
+  OfWish (Err e) = D e
 
   -- what is asked of them: each wait begins with its claim, the end has its own, and so has every refusal
   pub record Lasts (w : Work) (su : Setup) : Type 0 where
@@ -48,15 +46,13 @@ module _ (W : State → State → Type 0) (R : Type 0) (F : End → Type 0) (D :
   module _ (w : Work) (su : Setup) (g : Lasts w su) where
     waiting : (c : Command) (n : ℕ) (pr : Progress) (l : ℕ) (h : List Event) → OfWait (wait_after su c n) → WaitingAt w su lasting (wait_after su c n) pr l (sent_by (asks_at (Phase.Waiting (wait_after su c n))) ++ h)
     waiting (Command.Erase a) k pr l h v = v
-    waiting (Command.SetAddress a) k pr l h v = v
-    waiting (Command.Block n f m) k pr l h v = v
-    waiting (Command.Empty n) k pr l h v = v
+    waiting c k pr l h v = v
 
-    wished : (pr : Progress) (l : ℕ) (h : List Event) (t : Todo) → OfWish t → Wished w su lasting pr l h t
-    wished pr l h (Todo.Send c then) v = λ m e. (tt, λ n f. waiting c n (w.took su then c n) m _ (g.waits c n))
-    wished pr l h (Todo.End End.Stays) v = v
-    wished pr l h (Todo.End End.Reset) v = v
-    wished pr l h (Todo.Refuse e) v = v
+    wished : (pr : Progress) (l : ℕ) (h : List Event) (t : Result Todo Error) → OfWish t → Wished w su lasting pr l h t
+    wished pr l h (Ok (Todo.Send c then)) v = λ m e. (tt, λ n f. waiting c n (w.took su then c n) m _ (g.waits c n))
+    wished pr l h (Ok (Todo.End End.Stays)) v = v
+    wished pr l h (Ok (Todo.End End.Reset)) v = v
+    wished pr l h (Err e) v = v
 
     pub lasting_holds : Holds w su lasting
     lasting_holds = record {
@@ -82,15 +78,11 @@ module _ (W : State → State → Type 0) (R : Type 0) (F : End → Type 0) (D :
     }
 
 -- wishes of whose refusals nothing is claimed
-pub unit_wish : (P : State → State → Type 0) (t : Todo) → OfWish P Unit (λ e. Unit) (λ e. Unit) t
-unit_wish P (Todo.Send c then) = tt
-unit_wish P (Todo.End End.Stays) = tt
-unit_wish P (Todo.End End.Reset) = tt
-unit_wish P (Todo.Refuse e) = tt
+pub unit_wish : (P : State → State → Type 0) (t : Result Todo Error) → OfWish P Unit (λ e. Unit) (λ e. Unit) t
+unit_wish P (Ok (Todo.End End.Stays)) = tt
+unit_wish P t = tt
 
 -- waits of which nothing is claimed
 pub unit_waits : (su : Setup) (c : Command) (n : ℕ) → OfWait (λ b t. Unit) Unit (λ e. Unit) (λ e. Unit) (wait_after su c n)
 unit_waits su (Command.Erase a) k = tt
-unit_waits su (Command.SetAddress a) k = tt
-unit_waits su (Command.Block n f m) k = tt
-unit_waits su (Command.Empty n) k = tt
+unit_waits su c k = tt

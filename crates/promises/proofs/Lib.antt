@@ -2,6 +2,7 @@ pub mod Starred
 pub mod Counted
 pub mod Walk
 pub mod Steady
+pub mod Wishes
 pub mod Wanted
 pub mod Onwire
 pub mod Started

@@ -1,27 +1,20 @@
 -- Refusal 3 can't occur, and DfuSe's blocks are written where they belong: start has seen to both. Assumes nothing.
-use Prim.Native.Nat.{ℕ, ◌+◌, ◌*◌, ◌<◌, ◌≤◌}
-use native.Mathlib.Omega.{arith}
-use mathlib.Core.Path.{◌≡◌, refl, ap, sym, subst, ◌∙◌}
-use mathlib.Core.Logic.{⊎_elim}
-use mathlib.Core.Bool.{true}
-use mathlib.Core.List.{List, [], ◌∷◌, ◌++◌}
-use lib.ListN.{length, get_or}
-use lib.Dec.{ltb}
-use borrow.Author.Tests.{ltb-true}
-use Rattle.ground.proofs.Tests.{picked}
+use Rattle.std.proofs.Common.{Ok, ℕ, ◌+◌, ◌*◌, ◌<◌, ◌≤◌, arith, ◌≡◌, refl, ap, sym, subst, ◌∙◌, ⊎_elim, true, List, [], ◌∷◌, ◌++◌, length}
 use Rattle.papers.specs.Dfuse.{block_address}
 use Rattle.papers.specs.Plan.{block_number}
 use Rattle.papers.proofs.Numbers.{block_number_lem, block_address_lem}
 use Rattle.work.specs.Work.{said_error, limit, end_of, block_count}
-use Rattle.download.specs.Download.{erase_next, write_next, next_at, next_of}
+use Rattle.download.specs.Download.{next_at, next_of}
 use Rattle.machine.specs.Machine.{said_ask}
-use Rattle.start.specs.Start.{dfuseb, target_of, said_start}
+use Rattle.protocol.specs.Interface.{dfuseb}
+use Rattle.start.specs.Start.{target_of, said_start}
 use Rattle.start.specs.declared.StartError.{StartError}
 use Rattle.plan.specs.Sent.{Begins}
-use Rattle.promises.specs.Words.{DfuProtocol, Command, Setup, Progress, Stage, End, Error, download, Phase, Ask, Session, Answer, mk, told, DfuSansIo, setup_of, fresh}
+use Rattle.promises.specs.Words.{Todo, DfuProtocol, Command, Setup, Progress, Stage, End, Error, download, Phase, Ask, Session, Answer, mk, told, DfuSansIo, setup_of, fresh}
 use Rattle.promises.specs.Run.{Event, World, opened, tell, commanded}
 use Rattle.promises.specs.Calls.{Call, calls}
 use Rattle.promises.specs.Limits.{EndsBelow, AllBelow}
+use Rattle.promises.proofs.Wishes.{erase_picked, write_picked}
 use Rattle.promises.proofs.Steady.{KeptBy, Steady, tell_steady, tell_setup}
 use Rattle.promises.proofs.Calls.{calls_keep}
 use Rattle.promises.proofs.Started.{started, start_within, begun_within}
@@ -37,17 +30,11 @@ module _ (su : Setup) (k : end_of su < limit) where
   Below l h = AllBelow su.address (commanded h)
 
   wishes : (st : Stage) (ps : List ℕ) (pr : Progress) → KeptBy Below (next_at st ps su pr)
-  unfolding erase_next write_next commanded
+  unfolding commanded
   wishes Stage.Erasing ps pr =
-      picked (KeptBy Below) (ltb pr.erased (end_of su)) _ _
-      (λ e. picked (KeptBy Below) (ltb pr.page (length ps)) _ _
-      (λ f. picked (KeptBy Below) (ltb (pr.erased + get_or ps pr.page 0) limit) _ _ (λ g l h v. one_more _ (commanded h) _ v tt) (λ g. tt))
-      (λ f. tt))
-      (λ e l h v. one_more _ (commanded h) _ v tt)
+      erase_picked (KeptBy Below) ps su pr (λ e f l h v. one_more _ (commanded h) _ v tt) (λ e f g. tt) (λ e f. tt) (λ e l h v. one_more _ (commanded h) _ v tt)
   wishes Stage.Writing ps pr =
-      picked (KeptBy Below) (ltb pr.accepted su.length) _ _
-      (λ e l h v. one_more _ (commanded h) _ v (omega (arith, ltb-true pr.accepted su.length e, k)))
-      (λ e l h v. one_more _ (commanded h) _ v tt)
+      write_picked (λ (t : Todo). KeptBy Below (Ok t)) su pr (λ e l h v. one_more _ (commanded h) _ v (omega (arith, e, k))) (λ e l h v. one_more _ (commanded h) _ v tt)
   wishes Stage.Ending ps pr = tt
 
   below : (ps : List ℕ) → Steady Below (download ps) su
@@ -110,27 +97,13 @@ module _ (io : DfuSansIo) (p : DfuProtocol) (fw ps : List ℕ) (budget : ℕ) (s
 -- NO REFUSAL IS 3
 never_3_error : (e : Error) → (said_error e).number ≡ 3 → ⊥
 never_3_error (Error.InvalidState got expected) e = omega (arith, e)
-never_3_error Error.EraseLimitReached e = omega (arith, e)
-never_3_error Error.NoSpaceLeft e = omega (arith, e)
-never_3_error (Error.ResponseTooShort got) e = omega (arith, e)
-never_3_error Error.BudgetSpent e = omega (arith, e)
-never_3_error Error.NotAwaited e = omega (arith, e)
-never_3_error Error.NotAsAtStart e = omega (arith, e)
-never_3_error Error.Failed e = omega (arith, e)
-never_3_error (Error.StatusError status) e = omega (arith, e)
-never_3_error (Error.WrongCount n m) e = omega (arith, e)
+never_3_error x e = omega (arith, e)
 
 pub never_3 : (k : Ask) → (said_ask k).number ≡ 3 → ⊥
-never_3 (Ask.Transfer q) e = omega (arith, e)
-never_3 (Ask.Wait ms) e = omega (arith, e)
-never_3 Ask.Reset e = omega (arith, e)
-never_3 (Ask.Finished End.Stays) e = omega (arith, e)
-never_3 (Ask.Finished End.Reset) e = omega (arith, e)
 never_3 (Ask.Refused x) e = never_3_error x e
+never_3 (Ask.Finished End.Stays) e = omega (arith, e)
+never_3 k e = omega (arith, e)
 
 pub start_never_3 : (e : StartError) → (said_start e).number ≡ 3 → ⊥
 start_never_3 StartError.OutOfCapabilities e = omega (arith, e)
-start_never_3 StartError.TooManyPages e = omega (arith, e)
-start_never_3 StartError.NoSpaceLeft e = omega (arith, e)
-start_never_3 StartError.TooManyBlocks e = omega (arith, e)
-start_never_3 StartError.BudgetSpent e = omega (arith, e)
+start_never_3 x e = omega (arith, e)

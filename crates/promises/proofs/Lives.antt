@@ -1,24 +1,17 @@
 -- Any work: with a fair device, room and budget nothing is refused, and each answer brings the end nearer. Assumes nothing.
-use Prim.Native.Nat.{ℕ, zero, suc, ◌+◌, ◌-◌, ◌*◌, ◌<◌, ◌≤◌}
-use native.Mathlib.Omega.{arith}
-use mathlib.Core.Path.{◌≡◌, refl, ap, sym, subst, ◌∙◌}
-use mathlib.Core.Logic.{◌⊎◌, ⊎_elim}
-use mathlib.Core.Bool.{true, false}
-use mathlib.Core.List.{List, [], ◌∷◌, ◌++◌}
-use lib.Dec.{eqb, ltb}
-use lib.ListN.{length, length-append}
-use borrow.Author.Tests.{le-ltb, eq-eqb, eqb-false}
+use Rattle.std.proofs.Common.{mul-le-mul_right, ℕ, zero, suc, ◌+◌, ◌-◌, ◌*◌, ◌<◌, ◌≤◌, arith, ◌≡◌, refl, ap, sym, subst, ◌∙◌, ◌⊎◌, ⊎_elim, true, false, List, [], ◌∷◌, ◌++◌, eqb, ltb, length, length-append, le-ltb, eq-eqb, Result, Ok, Err}
+use borrow.Author.Tests.{eqb-false}
 use Rattle.ground.proofs.Tests.{picked}
 use Rattle.get_status.specs.Names.{state_byte, status_byte}
 use Rattle.get_status.specs.Reply.{message_of}
 use Rattle.get_status.specs.declared.State.{State}
 use Rattle.get_status.specs.declared.GetStatusMessage.{GetStatusMessage}
-use Rattle.get_status.specs.declared.Reply.{Reply}
+use Rattle.get_status.specs.declared.Error.{Error as ReplyError}
 use Rattle.get_status.specs.declared.Met.{Met}
 use Rattle.work.specs.Work.{whole_of, wait_after}
 use Rattle.machine.specs.Machine.{issue, proceed, on_count, first_reply, later_reply, reading, on_first, on_second, on_met, on_poll, asks_at}
 use Rattle.session.specs.Told.{over, go, told_at}
-use Rattle.promises.specs.Words.{Command, Request, Setup, Progress, Todo, Wait, End, Work, Phase, Moved, Ask, Session, Step, Answer, count, reply, waited, was_reset, failed, mk, told}
+use Rattle.promises.specs.Words.{Command, Request, Setup, Progress, Todo, Wait, End, Work, Phase, Moved, Ask, Session, Step, Answer, count, reply, waited, was_reset, mk, told, Error}
 use Rattle.promises.specs.Run.{Event, sends, sent_by, shown_by, shown_first, shown_later, heard_at, World, tell, after, after_by, transfers, cleared, Unrefused, Over, Taken}
 use Rattle.promises.specs.Fair.{Fine, allowed, Fair, FairBy, Yes, AllYes, AllYesBy}
 use Rattle.promises.proofs.Counted.{taken_true}
@@ -26,17 +19,11 @@ use Rattle.promises.proofs.Wanted.{Heads}
 use Rattle.promises.proofs.Steady.{tell_setup}
 use Rattle.promises.proofs.Spends.{tell_adds}
 
--- fewer of them, times the same
-mul_le : (a b c : ℕ) → a ≤ b → a * c ≤ b * c
-mul_le a zero c h = let e : a ≡ 0 = omega arith in let z : a * c ≡ 0 * c = ap (λ (x : ℕ). x * c) e in omega (arith, z)
-mul_le zero (suc b) c h = omega arith
-mul_le (suc a) (suc b) c h = omega (arith, mul_le a b c (omega arith))
-
 -- with room the work isn't refused, and keeps room
-abbrev pub Wants : Work → (Progress → Type 0) → Setup → Todo → Type 0
-Wants w room su (Todo.Send c then) = room (w.took su then c (whole_of c))
-Wants w room su (Todo.End e) = Unit
-Wants w room su (Todo.Refuse e) = ⊥
+abbrev pub Wants : Work → (Progress → Type 0) → Setup → Result Todo Error → Type 0
+Wants w room su (Ok (Todo.Send c then)) = room (w.took su then c (whole_of c))
+Wants w room su (Ok (Todo.End e)) = Unit
+Wants w room su (Err e) = ⊥
 
 -- what is asked of the work: its wishes are a list, with room it isn't refused, and a command that brings less than it may leaves no more to do
 pub record Thrives (w : Work) (su : Setup) (left : Progress → List Command) (room : Progress → Type 0) : Type 0 where
@@ -124,17 +111,17 @@ module _ (w : Work) (left : Progress → List Command) (room : Progress → Type
     ask_lives j n t su pr then (suc l) q p h v a c d = record { roomy = v; cost = rw a c; time = d; yes = rw a tt }
 
     -- the work goes on
-    proceed_lives : (j : ℕ) (su : Setup) (pr : Progress) (l : ℕ) (t : Todo) → Heads w left su (left pr) t → Wants w room su t → length (left pr) * (k + 2) ≤ l
+    proceed_lives : (j : ℕ) (su : Setup) (pr : Progress) (l : ℕ) (t : Result Todo Error) → Heads w left su (left pr) t → Wants w room su t → length (left pr) * (k + 2) ≤ l
         → Lives j (length (left pr) * (k + 2)) (2 + length (left pr) * (2 * k + 3)) (go (over su (proceed pr l t)))
     unfolding transfers cleared
-    proceed_lives j su pr l (Todo.Send c then) h v m =
+    proceed_lives j su pr l (Ok (Todo.Send c then)) h v m =
         let e : suc (length (left (w.took su then c (whole_of c)))) ≡ length (left pr) = ap length h in
         let e₁ : suc (length (left (w.took su then c (whole_of c)))) * (k + 2) ≡ length (left pr) * (k + 2) = ap (λ (x : ℕ). x * (k + 2)) e in
         let e₂ : suc (length (left (w.took su then c (whole_of c)))) * (2 * k + 3) ≡ length (left pr) * (2 * k + 3) = ap (λ (x : ℕ). x * (2 * k + 3)) e in
         ask_lives j _ _ su pr then l (Request.Command c) (Phase.Sent c) (omega arith) v refl (omega arith) (omega arith)
-    proceed_lives j su pr l (Todo.End End.Stays) h v m = record { roomy = tt; cost = omega arith; time = omega arith; yes = tt }
-    proceed_lives j su pr l (Todo.End End.Reset) h v m = record { roomy = tt; cost = omega arith; time = omega arith; yes = tt }
-    proceed_lives j su pr l (Todo.Refuse e) h v m = absurd v
+    proceed_lives j su pr l (Ok (Todo.End End.Stays)) h v m = record { roomy = tt; cost = omega arith; time = omega arith; yes = tt }
+    proceed_lives j su pr l (Ok (Todo.End End.Reset)) h v m = record { roomy = tt; cost = omega arith; time = omega arith; yes = tt }
+    proceed_lives j su pr l (Err e) h v m = absurd v
 
     reading_lives : (j n t : ℕ) (su : Setup) (pr : Progress) (l : ℕ) (bs : List ℕ) (f : GetStatusMessage → Moved) → 6 ≤ length bs → Lives j n t (go (over su (f (message_of bs))))
         → Lives j n t (go (over su (reading pr l (first_reply bs) f)))
@@ -157,7 +144,7 @@ module _ (w : Work) (left : Progress → List Command) (room : Progress → Type
           (λ e. ask_lives j _ _ su pr pr l Request.ClearStatus Phase.Clear (omega arith) v refl (omega arith) (omega arith))
           (λ e. ask_lives j _ _ su pr pr l Request.GetStatus Phase.Second (omega arith) v refl (omega arith) (omega arith))
 
-      second_lives : (m : GetStatusMessage) (t : Todo) → Heads w left su (left pr) t → Wants w room su t → needAt k j su pr Phase.Second ≤ l → state_byte m.state ≡ 2
+      second_lives : (m : GetStatusMessage) (t : Result Todo Error) → Heads w left su (left pr) t → Wants w room su t → needAt k j su pr Phase.Second ≤ l → state_byte m.state ≡ 2
           → Lives j (needAt k j su pr Phase.Second) (tellsAt k j su pr Phase.Second) (go (over su (on_second pr l t m)))
       unfolding on_second
       second_lives m t h n u e =
@@ -166,7 +153,7 @@ module _ (w : Work) (left : Progress → List Command) (room : Progress → Type
           (λ f. absurd (eqb-false _ _ f e))
 
       -- one look while waiting
-      poll_lives : (b g : State) (m : GetStatusMessage) (t : Todo) → Heads w left su (left pr) t → Wants w room su t → needAt k j su pr (Phase.Waiting (Wait.Poll b g)) ≤ l
+      poll_lives : (b g : State) (m : GetStatusMessage) (t : Result Todo Error) → Heads w left su (left pr) t → Wants w room su t → needAt k j su pr (Phase.Waiting (Wait.Poll b g)) ≤ l
           → (state_byte m.state ≡ state_byte g) ⊎ ((state_byte m.state ≡ state_byte b) × (0 < j))
           → Lives (j - 1) (needAt k j su pr (Phase.Waiting (Wait.Poll b g))) (tellsAt k j su pr (Phase.Waiting (Wait.Poll b g))) (go (over su (on_poll pr l b g t m)))
       unfolding on_poll transfers cleared
@@ -177,10 +164,10 @@ module _ (w : Work) (left : Progress → List Command) (room : Progress → Type
           (λ f. again (⊎_elim (λ y. absurd (eqb-false _ _ e y)) (λ y. y.1) z))
           (λ f. absurd (⊎_elim (λ y. eqb-false _ _ e y) (λ y. eqb-false _ _ f y.0) z)))
         where
-          P : Met → Type 0
+          P : Result Met ReplyError → Type 0
           P x = Lives (j - 1) (needAt k j su pr (Phase.Waiting (Wait.Poll b g))) (tellsAt k j su pr (Phase.Waiting (Wait.Poll b g))) (go (over su (on_met pr l b g t x)))
 
-          again : 0 < j → P (Met.Busy m.poll_timeout)
+          again : 0 < j → P (Ok (Met.Busy m.poll_timeout))
           again y = record { roomy = v; cost = omega arith; time = omega arith; yes = tt }
 
     -- one fair answer
@@ -193,112 +180,63 @@ module _ (w : Work) (left : Progress → List Command) (room : Progress → Type
           at_first : (b t : State) → Lives k (needAt k 0 su pr (Phase.Sent c)) (tellsAt k 0 su pr (Phase.Sent c)) (go (mk su (w.took su pr c n) l (Phase.Waiting (Wait.Pause b t 0))))
           at_first b t =
               let less : length (left (w.took su pr c n)) ≤ length (left (w.took su pr c (whole_of c))) = (law.short pr c n u).0 in
-              let less₁ : length (left (w.took su pr c n)) * (k + 2) ≤ length (left (w.took su pr c (whole_of c))) * (k + 2) = mul_le _ _ (k + 2) less in
-              let less₂ : length (left (w.took su pr c n)) * (2 * k + 3) ≤ length (left (w.took su pr c (whole_of c))) * (2 * k + 3) = mul_le _ _ (2 * k + 3) less in
+              let less₁ : length (left (w.took su pr c n)) * (k + 2) ≤ length (left (w.took su pr c (whole_of c))) * (k + 2) = mul-le-mul_right (k + 2) less in
+              let less₂ : length (left (w.took su pr c n)) * (2 * k + 3) ≤ length (left (w.took su pr c (whole_of c))) * (2 * k + 3) = mul-le-mul_right (2 * k + 3) less in
               record { roomy = (law.short pr c n u).1 v; cost = omega (arith, less₁); time = omega (arith, less₂); yes = tt }
 
           by : (d : Command) → Lives k (needAt k 0 su pr (Phase.Sent c)) (tellsAt k 0 su pr (Phase.Sent c)) (go (mk su (w.took su pr c n) l (Phase.Waiting (wait_after su d n))))
           by (Command.Erase a) = at_first _ _
-          by (Command.SetAddress a) = at_first _ _
-          by (Command.Block a b m) = at_first _ _
-          by (Command.Empty a) = at_first _ _
+          by d = at_first _ _
 
       lives_at : (j : ℕ) (pr : Progress) (l : ℕ) (p : Phase) (a : Answer) → RoomAt su pr p → Fine j p a → needAt k j su pr p ≤ l
           → Lives (allowed k j p) (needAt k j su pr p) (tellsAt k j su pr p) (told_at w su pr l p a)
       unfolding transfers cleared
-      lives_at j pr l Phase.First (count n) v f m = absurd f
       lives_at j pr l Phase.First (reply bs) v f m = reading_lives j _ _ su pr l bs _ f.0 (first_lives j su pr l v (message_of bs) m)
-      lives_at j pr l Phase.First waited v f m = absurd f
-      lives_at j pr l Phase.First was_reset v f m = absurd f
-      lives_at j pr l Phase.First failed v f m = absurd f
       lives_at j pr l Phase.Clear (count n) v f m = ask_lives j _ _ su pr pr l Request.GetStatus Phase.Second (omega arith) v refl (omega arith) (omega arith)
-      lives_at j pr l Phase.Clear (reply bs) v f m = absurd f
-      lives_at j pr l Phase.Clear waited v f m = absurd f
-      lives_at j pr l Phase.Clear was_reset v f m = absurd f
-      lives_at j pr l Phase.Clear failed v f m = absurd f
-      lives_at j pr l Phase.Second (count n) v f m = absurd f
       lives_at j pr l Phase.Second (reply bs) v f m =
           strict_lives j _ _ su pr l bs _ f.0 f.1.0 (second_lives j su pr l v (message_of bs) _ (law.heads pr) (law.wants pr v) m f.1.1)
-      lives_at j pr l Phase.Second waited v f m = absurd f
-      lives_at j pr l Phase.Second was_reset v f m = absurd f
-      lives_at j pr l Phase.Second failed v f m = absurd f
       lives_at j pr l (Phase.Sent c) (count n) v f m = sent_lives pr l c n f v
-      lives_at j pr l (Phase.Sent c) (reply bs) v f m = absurd f
-      lives_at j pr l (Phase.Sent c) waited v f m = absurd f
-      lives_at j pr l (Phase.Sent c) was_reset v f m = absurd f
-      lives_at j pr l (Phase.Sent c) failed v f m = absurd f
-      lives_at j pr l (Phase.Waiting (Wait.Pause b t ms)) (count n) v f m = absurd f
-      lives_at j pr l (Phase.Waiting (Wait.Pause b t ms)) (reply bs) v f m = absurd f
       lives_at j pr l (Phase.Waiting (Wait.Pause b t ms)) waited v f m =
           ask_lives j _ _ su pr pr l Request.GetStatus (Phase.Waiting (Wait.Poll b t)) (omega arith) v refl (omega arith) (omega arith)
-      lives_at j pr l (Phase.Waiting (Wait.Pause b t ms)) was_reset v f m = absurd f
-      lives_at j pr l (Phase.Waiting (Wait.Pause b t ms)) failed v f m = absurd f
-      lives_at j pr l (Phase.Waiting (Wait.Poll b t)) (count n) v f m = absurd f
       lives_at j pr l (Phase.Waiting (Wait.Poll b t)) (reply bs) v f m =
           strict_lives (j - 1) _ _ su pr l bs _ f.0 f.1.0 (poll_lives j su pr l v b t (message_of bs) _ (law.heads pr) (law.wants pr v) m f.1.1)
-      lives_at j pr l (Phase.Waiting (Wait.Poll b t)) waited v f m = absurd f
-      lives_at j pr l (Phase.Waiting (Wait.Poll b t)) was_reset v f m = absurd f
-      lives_at j pr l (Phase.Waiting (Wait.Poll b t)) failed v f m = absurd f
-      lives_at j pr l Phase.Resetting (count n) v f m = absurd f
-      lives_at j pr l Phase.Resetting (reply bs) v f m = absurd f
-      lives_at j pr l Phase.Resetting waited v f m = absurd f
       lives_at j pr l Phase.Resetting was_reset v f m = record { roomy = tt; cost = omega arith; time = omega arith; yes = tt }
-      lives_at j pr l Phase.Resetting failed v f m = absurd f
       lives_at j pr l (Phase.Finished e) a v f m = record { roomy = tt; cost = omega arith; time = omega arith; yes = tt }
       lives_at j pr l (Phase.Refused e) a v f m = absurd v
+      lives_at j pr l p a v f m = absurd f
 
 -- what a step adds to the past: at most one transfer, and no reply is one
 abbrev Silent : List Event → Type 0
 Silent e = (h : List Event) → (transfers (e ++ h) ≡ transfers h) × (cleared (e ++ h) ≡ cleared h)
 
-shown_silent : (r : Reply) → Silent (shown_by r)
+shown_silent : (r : Result GetStatusMessage ReplyError) → Silent (shown_by r)
 unfolding transfers cleared
-shown_silent (Reply.ResponseTooShort got) h = (refl, refl)
-shown_silent (Reply.StatusError status) h = (refl, refl)
-shown_silent (Reply.Read m) h = (refl, refl)
+shown_silent (Err e) h = (refl, refl)
+shown_silent r h = (refl, refl)
 
 first_silent : (a : Answer) → Silent (shown_first a)
-first_silent (count n) h = (refl, refl)
 first_silent (reply bs) h = shown_silent (first_reply bs) h
-first_silent waited h = (refl, refl)
-first_silent was_reset h = (refl, refl)
-first_silent failed h = (refl, refl)
+first_silent a h = (refl, refl)
 
 later_silent : (a : Answer) → Silent (shown_later a)
-later_silent (count n) h = (refl, refl)
 later_silent (reply bs) h = shown_silent (later_reply bs) h
-later_silent waited h = (refl, refl)
-later_silent was_reset h = (refl, refl)
-later_silent failed h = (refl, refl)
+later_silent a h = (refl, refl)
 
 heard_silent : (p : Phase) (a : Answer) → Silent (heard_at p a)
 heard_silent Phase.First a h = first_silent a h
-heard_silent Phase.Clear a h = (refl, refl)
 heard_silent Phase.Second a h = later_silent a h
-heard_silent (Phase.Sent c) a h = (refl, refl)
-heard_silent (Phase.Waiting (Wait.Pause b t ms)) a h = (refl, refl)
 heard_silent (Phase.Waiting (Wait.Poll b t)) a h = later_silent a h
-heard_silent Phase.Resetting a h = (refl, refl)
-heard_silent (Phase.Finished e) a h = (refl, refl)
-heard_silent (Phase.Refused e) a h = (refl, refl)
+heard_silent p a h = (refl, refl)
 
 sent_transfers : (k : Ask) (h : List Event) → length (transfers (sent_by k ++ h)) ≡ length (transfers h) + length (transfers (sent_by k))
 unfolding transfers
 sent_transfers (Ask.Transfer q) h = length-append (transfers h) (q ∷ [])
-sent_transfers (Ask.Wait ms) h = omega arith
-sent_transfers Ask.Reset h = omega arith
-sent_transfers (Ask.Finished e) h = omega arith
-sent_transfers (Ask.Refused e) h = omega arith
+sent_transfers k h = omega arith
 
 sent_cleared : (k : Ask) (h : List Event) → cleared (sent_by k ++ h) ≡ cleared h + cleared (sent_by k)
 unfolding cleared
 sent_cleared (Ask.Transfer Request.GetStatus) h = omega arith
-sent_cleared (Ask.Transfer Request.ClearStatus) h = omega arith
-sent_cleared (Ask.Transfer (Request.Command c)) h = omega arith
-sent_cleared (Ask.Wait ms) h = omega arith
-sent_cleared Ask.Reset h = omega arith
-sent_cleared (Ask.Finished e) h = omega arith
-sent_cleared (Ask.Refused e) h = omega arith
+sent_cleared k h = omega arith
 
 tell_transfers : (w : Work) (x : World) (a : Answer)
     → length (transfers (tell w x a).past) ≡ length (transfers x.past) + length (transfers (sent_by (told w x.session a).says))
@@ -351,23 +289,12 @@ module _ (w : Work) (left : Progress → List Command) (room : Progress → Type
 -- with room nothing is refused, and with nothing more to tell it is over
 pub room_unrefused : (w : Work) (left : Progress → List Command) (room : Progress → Type 0) (su : Setup) (pr : Progress) (p : Phase)
     → RoomAt w left room su pr p → Unrefused p
-room_unrefused w left room su pr Phase.First v = tt
-room_unrefused w left room su pr Phase.Clear v = tt
-room_unrefused w left room su pr Phase.Second v = tt
-room_unrefused w left room su pr (Phase.Sent c) v = tt
-room_unrefused w left room su pr (Phase.Waiting x) v = tt
-room_unrefused w left room su pr Phase.Resetting v = tt
-room_unrefused w left room su pr (Phase.Finished e) v = tt
 room_unrefused w left room su pr (Phase.Refused e) v = v
+room_unrefused w left room su pr p v = tt
 
 pub at_rest : (w : Work) (left : Progress → List Command) (room : Progress → Type 0) (k j : ℕ) (su : Setup) (pr : Progress) (p : Phase)
     → RoomAt w left room su pr p → tellsAt w left room k j su pr p ≤ 0 → Over p
-at_rest w left room k j su pr Phase.First v m = absurd (omega arith)
-at_rest w left room k j su pr Phase.Clear v m = absurd (omega arith)
-at_rest w left room k j su pr Phase.Second v m = absurd (omega arith)
-at_rest w left room k j su pr (Phase.Sent c) v m = absurd (omega arith)
-at_rest w left room k j su pr (Phase.Waiting (Wait.Pause b t ms)) v m = absurd (omega arith)
-at_rest w left room k j su pr (Phase.Waiting (Wait.Poll b t)) v m = absurd (omega arith)
-at_rest w left room k j su pr Phase.Resetting v m = absurd (omega arith)
 at_rest w left room k j su pr (Phase.Finished e) v m = tt
 at_rest w left room k j su pr (Phase.Refused e) v m = v
+at_rest w left room k j su pr (Phase.Waiting (Wait.Pause b t ms)) v m = absurd (omega arith)
+at_rest w left room k j su pr p v m = absurd (omega arith)

@@ -1,11 +1,6 @@
 -- Our machine has the promises, and each machine that is shut out lacks one. Assumes nothing.
-use Prim.Native.Nat.{ℕ, zero, suc, ◌*◌, ◌≤◌, ◌+◌}
-use native.Mathlib.Omega.{arith}
-use mathlib.Core.Path.{◌≡◌, refl, ap, sym, ◌∙◌}
-use mathlib.Core.Bool.{Bool, true, false, true≢false}
-use mathlib.Core.List.{List, [], ◌∷◌, ◌++◌, map}
-use lib.Dec.{eqb}
-use lib.ListN.{length, get_or, length-append, length-map}
+use Rattle.std.proofs.Common.{rules, ℕ, zero, suc, ◌*◌, ◌≤◌, ◌+◌, arith, ◌≡◌, refl, ap, sym, ◌∙◌, Bool, true, false, true≢false, List, [], ◌∷◌, ◌++◌, map, eqb, length, get_or, length-append}
+use lib.ListN.{length-map}
 use Rattle.ground.specs.Bytes.{little_endian_value, field, bytes_low}
 use Rattle.ground.specs.Said.{Said}
 use Rattle.papers.specs.Plan.{Dnload, erasing, several, block_of, plan, leading, blocks_for}
@@ -13,8 +8,6 @@ use Rattle.work.specs.Work.{block_count}
 use Rattle.download.specs.Download.{covering, erase_next, write_next, next_of, took_of}
 use Rattle.machine.specs.Machine.{on_first, on_second, on_poll}
 use Rattle.start.specs.Start.{begun_of, begin_of}
-use Rattle.start.specs.declared.StartError.{StartError}
-use Rattle.start.specs.declared.Started.{Started}
 use Rattle.plan.specs.Sent.{on_wire, plan_of}
 use Rattle.promises.specs.Words.{pick, DfuProtocol, Request, End, download, Phase, Session, Answer, count, waited, mk, told, DfuSansIo, setup_of, fresh}
 use Rattle.promises.specs.Run.{Event, sends, hears, opened, after_by, in_time, transfers, commanded, cleared}
@@ -82,15 +75,12 @@ begun_dfuse = mk (setup_of sample (DfuProtocol.Dfuse 0) 1 2) (fresh (setup_of sa
 abbrev round : ℕ → ℕ → List Answer → List Answer
 round n b more = count n ∷ waited ∷ shows b ∷ more
 
-not_begun : {e : StartError} {s : Session} → Started.Refused e ≡ Started.Session s → ⊥
-not_begun e = let z : ◌≡◌ {A = ℕ} 0 1 = cc in omega arith
-
 not_over : {e : End} → Phase.First ≡ Phase.Finished e → ⊥
-not_over e = let z : ◌≡◌ {A = ℕ} 0 1 = cc in omega arith
+not_over e = cc
 
 -- ALWAYS REFUSING doesn't start
 pub refusing_shut_out : Starts refusing → ⊥
-refusing_shut_out f = let (s, e) = f sample DfuProtocol.Dfu (7 ∷ []) [] 100 ready (omega arith) in not_begun e
+refusing_shut_out f = let (s, e) = f sample DfuProtocol.Dfu (7 ∷ []) [] 100 ready (omega arith) in cc
 
 -- nor does it refuse exactly: a good start is no refusal
 pub refusing_inexact : RefusesExactly refusing → ⊥
@@ -107,16 +97,14 @@ ten = shows 2 ∷ shows 2 ∷ shows 2 ∷ shows 2 ∷ shows 2 ∷ shows 2 ∷ sh
 pub fixed_shut_out : Finishing fixed → ⊥
 unfolding begin_of begun_of after_by heeded_by FairBy cleared block_count blocks_for
 fixed_shut_out f =
-    let six : 6 ≤ 6 = omega arith in
-    let fair : FairBy 0 0 (fixed.told []) begun_plain ten = ((six, tt), ((six, tt), ((six, tt), ((six, tt), ((six, tt), ((six, tt), ((six, tt), ((six, tt), ((six, tt), ((six, tt), tt)))))))))) in
+    let fair : FairBy 0 0 (fixed.told []) begun_plain ten = search rules in
     not_over ((f sample DfuProtocol.Dfu (7 ∷ []) [] 0 100 begun_plain ten ready refl fair (omega arith)).done (omega arith))
 
 -- DOING NOTHING doesn't finish either
 pub idle_shut_out : Finishing idle → ⊥
 unfolding begin_of begun_of after_by heeded_by FairBy cleared block_count blocks_for
 idle_shut_out f =
-    let six : 6 ≤ 6 = omega arith in
-    let fair : FairBy 0 0 (idle.told []) begun_plain ten = ((six, tt), ((six, tt), ((six, tt), ((six, tt), ((six, tt), ((six, tt), ((six, tt), ((six, tt), ((six, tt), ((six, tt), tt)))))))))) in
+    let fair : FairBy 0 0 (idle.told []) begun_plain ten = search rules in
     not_over ((f sample DfuProtocol.Dfu (7 ∷ []) [] 0 100 begun_plain ten ready refl fair (omega arith)).done (omega arith))
 
 -- and by the request list: one asks where ours says 24, the other says nothing where ours asks

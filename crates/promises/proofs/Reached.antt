@@ -1,11 +1,5 @@
 -- The bound is reached: a fair run with a clear and two busy replies to each wait spends exactly it, and with one less it is refused by 23. Assumes nothing.
-use Prim.Native.Nat.{ℕ, ◌≤◌}
-use native.Mathlib.Omega.{arith}
-use mathlib.Core.Path.{◌≡◌, refl, ◌∙◌}
-use mathlib.Core.Logic.{inl, inr}
-use mathlib.Core.Bool.{true, false}
-use mathlib.Core.List.{List, [], ◌∷◌}
-use lib.ListN.{length}
+use Rattle.std.proofs.Common.{rules, ℕ, ◌≡◌, refl, ◌∙◌, inl, inr, true, false, List, [], ◌∷◌, length}
 use Rattle.ground.specs.Bytes.{little_endian_value, field}
 use Rattle.papers.specs.Plan.{leading, blocks_for}
 use Rattle.work.specs.Work.{block_count}
@@ -42,83 +36,7 @@ reached_begins = (refl, refl)
 
 pub reached_fair : Fair 2 0 (download pages) (begun_with 18) answers
 unfolding FairBy told on_first on_second on_poll erase_next write_next next_of took_of field little_endian_value block_count
-reached_fair =
-    let six : 6 ≤ 6 = omega arith in (
-      (six, tt),
-      (
-        tt,
-        (
-          (six, (refl, refl)),
-          (
-            tt,
-            (
-              tt,
-              (
-                (six, (refl, inr (refl, omega arith))),
-                (
-                  tt,
-                  (
-                    (six, (refl, inr (refl, omega arith))),
-                    (
-                      tt,
-                      (
-                        (six, (refl, inl refl)),
-                        (
-                          tt,
-                          (
-                            tt,
-                            (
-                              (six, (refl, inr (refl, omega arith))),
-                              (
-                                tt,
-                                (
-                                  (six, (refl, inr (refl, omega arith))),
-                                  (
-                                    tt,
-                                    (
-                                      (six, (refl, inl refl)),
-                                      (
-                                        refl,
-                                        (
-                                          tt,
-                                          (
-                                            (six, (refl, inr (refl, omega arith))),
-                                            (
-                                              tt,
-                                              (
-                                                (six, (refl, inr (refl, omega arith))),
-                                                (
-                                                  tt,
-                                                  (
-                                                    (six, (refl, inl refl)),
-                                                    (
-                                                      tt,
-                                                      (tt, ((six, (refl, inr (refl, omega arith))), (tt, ((six, (refl, inr (refl, omega arith))), (tt, ((six, (refl, inl refl)), tt)))))),
-                                                    ),
-                                                  ),
-                                                ),
-                                              ),
-                                            ),
-                                          ),
-                                        ),
-                                      ),
-                                    ),
-                                  ),
-                                ),
-                              ),
-                            ),
-                          ),
-                        ),
-                      ),
-                    ),
-                  ),
-                ),
-              ),
-            ),
-          ),
-        ),
-      ),
-    )
+reached_fair = search (rules, inl, inr)
 
 -- EXACTLY THE BOUND, with one clear
 pub bound_reached : length (transfers (after (download pages) (opened (begun_with 18)) answers).past) ≡ bound 2 1 (requests_of counter (DfuProtocol.Dfuse 0) (7 ∷ []) pages)

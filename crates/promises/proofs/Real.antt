@@ -1,20 +1,11 @@
 -- A run that lends the same things at each call is the run of the definitions: 25 is not given, and `data` hands over the plan's bytes. Assumes nothing.
-use Prim.Native.Nat.{ℕ, ◌≤◌}
-use native.Mathlib.Omega.{arith}
-use mathlib.Core.Path.{◌≡◌, refl, ap, sym, subst, ◌∙◌}
-use mathlib.Core.Logic.{◌⊎◌, inl, inr}
-use mathlib.Core.Bool.{Bool, true, false}
-use mathlib.Core.List.{List, [], ◌∷◌, ◌++◌}
-use lib.Dec.{eqb, ltb}
-use lib.ListN.{length}
-use borrow.Author.Tests.{eq-eqb, le-ltb}
+use Rattle.std.proofs.Common.{ℕ, ◌≤◌, arith, ◌≡◌, refl, ap, sym, subst, ◌∙◌, ◌⊎◌, inl, inr, Bool, true, false, List, [], ◌∷◌, ◌++◌, eqb, ltb, length, eq-eqb, le-ltb, Result, Ok}
 use Rattle.ground.specs.Bytes.{bytes_low}
 use Rattle.ground.proofs.Tests.{picked}
 use Rattle.wire.specs.Wire.{filled_for, request_data}
 use Rattle.machine.specs.Machine.{asks_at}
 use Rattle.session.specs.Told.{await_reply, await_count, await_wait, await_reset, told_at}
 use Rattle.session.specs.Calls.{as_at_start, guard_of, through, called, filled_by, call_of, ask_data, data_of}
-use Rattle.session.specs.declared.Guard.{Guard}
 use Rattle.plan.proofs.Wire.{erase_command_lem, address_command}
 use Rattle.promises.specs.Words.{pick, Command, Request, Setup, Progress, Wait, Error, Work, download, Phase, Moved, Ask, Session, Step, Answer, count, reply, waited, was_reset, failed, mk, told}
 use Rattle.promises.specs.Run.{Event, sent_by, World, tell, after, after_by}
@@ -33,7 +24,7 @@ lent_as_at_start su fw ps c h k v =
     rw (e₁, e₂, e₃)
 
 -- such a call is a told answer
-abbrev world_by : Setup → Progress → ℕ → Phase → List Event → Call → Guard → World
+abbrev world_by : Setup → Progress → ℕ → Phase → List Event → Call → Result Unit Ask → World
 world_by su pr l p h c g = record {
   session = (through g (mk su pr l p) (told_at (download c.pages) su pr l p c.answer)).next;
   past = sent_by (through g (mk su pr l p) (told_at (download c.pages) su pr l p c.answer)).says ++ (heard_through g p c.answer ++ h);
@@ -41,16 +32,11 @@ world_by su pr l p h c g = record {
 
 call_at : (su : Setup) (pr : Progress) (l : ℕ) (p : Phase) (h : List Event) (c : Call)
     → as_at_start su (length c.firmware) (length c.pages) (length c.command) ≡ true
-    → world_by su pr l p h c (guard_of (mk su pr l p) (length c.firmware) (length c.pages) (length c.command)) ≡ world_by su pr l p h c Guard.Open
+    → world_by su pr l p h c (guard_of (mk su pr l p) (length c.firmware) (length c.pages) (length c.command)) ≡ world_by su pr l p h c (Ok tt)
 unfolding guard_of
-call_at su pr l Phase.First h c e = rw e
-call_at su pr l Phase.Clear h c e = rw e
-call_at su pr l Phase.Second h c e = rw e
-call_at su pr l (Phase.Sent d) h c e = rw e
-call_at su pr l (Phase.Waiting y) h c e = rw e
-call_at su pr l Phase.Resetting h c e = rw e
 call_at su pr l (Phase.Finished y) h c e = refl
 call_at su pr l (Phase.Refused y) h c e = refl
+call_at su pr l p h c e = rw e
 
 call_tells : (x : World) (c : Call) → as_at_start x.session.setup (length c.firmware) (length c.pages) (length c.command) ≡ true
     → call x c ≡ tell (download c.pages) x c.answer
@@ -77,14 +63,9 @@ module _ (fw ps : List ℕ) where
 shut_at : (su : Setup) (pr : Progress) (l : ℕ) (p : Phase) (h : List Event) (c : Call) → rightly su c ≡ false
     → world_by su pr l p h c (guard_of (mk su pr l p) (length c.firmware) (length c.pages) (length c.command)) ≡ record { session = mk su pr l p; past = h }
 unfolding guard_of
-shut_at su pr l Phase.First h c e = rw e
-shut_at su pr l Phase.Clear h c e = rw e
-shut_at su pr l Phase.Second h c e = rw e
-shut_at su pr l (Phase.Sent d) h c e = rw e
-shut_at su pr l (Phase.Waiting y) h c e = rw e
-shut_at su pr l Phase.Resetting h c e = rw e
 shut_at su pr l (Phase.Finished y) h c e = refl
 shut_at su pr l (Phase.Refused y) h c e = refl
+shut_at su pr l p h c e = rw e
 
 call_shut : (x : World) (c : Call) → rightly x.session.setup c ≡ false → call x c ≡ x
 unfolding call_of called told
@@ -115,43 +96,32 @@ abbrev pub Answers : Step → Type 0
 Answers x = (x.says ≡ asks_at x.next.phase) ⊎ (x.says ≡ Ask.Refused Error.NotAwaited)
 
 reply_answers : (s : Session) (f : List ℕ → Moved) (a : Answer) → Answers (await_reply s f a)
-reply_answers s f (count n) = inr refl
 reply_answers s f (reply bs) = inl refl
-reply_answers s f waited = inr refl
-reply_answers s f was_reset = inr refl
 reply_answers s f failed = inl refl
+reply_answers s f a = inr refl
 
 count_answers : (s : Session) (f : ℕ → Moved) (a : Answer) → Answers (await_count s f a)
 count_answers s f (count n) = inl refl
-count_answers s f (reply bs) = inr refl
-count_answers s f waited = inr refl
-count_answers s f was_reset = inr refl
 count_answers s f failed = inl refl
+count_answers s f a = inr refl
 
 wait_answers : (s : Session) (m : Moved) (a : Answer) → Answers (await_wait s m a)
-wait_answers s m (count n) = inr refl
-wait_answers s m (reply bs) = inr refl
 wait_answers s m waited = inl refl
-wait_answers s m was_reset = inr refl
-wait_answers s m failed = inr refl
+wait_answers s m a = inr refl
 
 reset_answers : (s : Session) (m : Moved) (a : Answer) → Answers (await_reset s m a)
-reset_answers s m (count n) = inr refl
-reset_answers s m (reply bs) = inr refl
-reset_answers s m waited = inr refl
 reset_answers s m was_reset = inl refl
 reset_answers s m failed = inl refl
+reset_answers s m a = inr refl
 
 answers_at : (w : Work) (su : Setup) (pr : Progress) (l : ℕ) (p : Phase) (a : Answer) → Answers (told_at w su pr l p a)
-answers_at w su pr l Phase.First a = reply_answers _ _ a
 answers_at w su pr l Phase.Clear a = count_answers _ _ a
-answers_at w su pr l Phase.Second a = reply_answers _ _ a
 answers_at w su pr l (Phase.Sent c) a = count_answers _ _ a
 answers_at w su pr l (Phase.Waiting (Wait.Pause b t ms)) a = wait_answers _ _ a
-answers_at w su pr l (Phase.Waiting (Wait.Poll b t)) a = reply_answers _ _ a
 answers_at w su pr l Phase.Resetting a = reset_answers _ _ a
 answers_at w su pr l (Phase.Finished e) a = inl refl
 answers_at w su pr l (Phase.Refused e) a = inl refl
+answers_at w su pr l p a = reply_answers _ _ a
 
 pub answers_told : (w : Work) (s : Session) (a : Answer) → Answers (told w s a)
 unfolding told
@@ -163,14 +133,9 @@ step_at : (su : Setup) (pr : Progress) (l : ℕ) (p : Phase) (c : Call)
     → through (guard_of (mk su pr l p) (length c.firmware) (length c.pages) (length c.command)) (mk su pr l p) (told_at (download c.pages) su pr l p c.answer)
     ≡ told_at (download c.pages) su pr l p c.answer
 unfolding guard_of
-step_at su pr l Phase.First c e = rw e
-step_at su pr l Phase.Clear c e = rw e
-step_at su pr l Phase.Second c e = rw e
-step_at su pr l (Phase.Sent d) c e = rw e
-step_at su pr l (Phase.Waiting y) c e = rw e
-step_at su pr l Phase.Resetting c e = rw e
 step_at su pr l (Phase.Finished y) c e = refl
 step_at su pr l (Phase.Refused y) c e = refl
+step_at su pr l p c e = rw e
 
 module _ (fw ps : List ℕ) (s : Session) (c : Call) (k : For fw ps s.setup) (v : Lends fw ps c) where
   pub same_step : (outcome s c).step ≡ told (download ps) s c.answer
@@ -182,29 +147,20 @@ module _ (fw ps : List ℕ) (s : Session) (c : Call) (k : For fw ps s.setup) (v 
 -- the five command bytes are filled, and none is lost
 filled_length : (q : Request) (cmd : List ℕ) → 5 ≤ length cmd → 5 ≤ length (filled_for q cmd)
 unfolding bytes_low
-filled_length Request.GetStatus cmd h = h
-filled_length Request.ClearStatus cmd h = h
 filled_length (Request.Command (Command.Erase a)) cmd h = omega arith
 filled_length (Request.Command (Command.SetAddress a)) cmd h = omega arith
-filled_length (Request.Command (Command.Block n f m)) cmd h = h
-filled_length (Request.Command (Command.Empty n)) cmd h = h
+filled_length q cmd h = h
 
 -- whatever bytes were lent, a request's data is the same
 request_data_lem : (q : Request) (fw cmd : List ℕ) → request_data q fw (filled_for q cmd) ≡ request_data q fw (filled_for q [])
-request_data_lem Request.GetStatus fw cmd = refl
-request_data_lem Request.ClearStatus fw cmd = refl
 request_data_lem (Request.Command (Command.Erase a)) fw cmd = erase_command_lem a fw cmd ∙ sym (erase_command_lem a fw [])
 request_data_lem (Request.Command (Command.SetAddress a)) fw cmd = address_command a fw cmd ∙ sym (address_command a fw [])
-request_data_lem (Request.Command (Command.Block n f m)) fw cmd = refl
-request_data_lem (Request.Command (Command.Empty n)) fw cmd = refl
+request_data_lem q fw cmd = refl
 
 -- a transfer that a call answers is what the next session asks
 asks_transfer : (x : Step) (q : Request) → Answers x → x.says ≡ Ask.Transfer q → asks_at x.next.phase ≡ Ask.Transfer q
-asks_transfer x q (inl e) z = sym e ∙ z
-asks_transfer x q (inr e) z = absurd (not_no (sym e ∙ z))
-  where
-    not_no : {d : Error} → Ask.Refused d ≡ Ask.Transfer q → ⊥
-    not_no e = let z : ◌≡◌ {A = ℕ} 0 1 = cc in omega arith
+asks_transfer x q (inl e) z = cc
+asks_transfer x q (inr e) z = cc
 
 -- WHAT `data` HANDS OVER after a call, lent the command bytes as the call left them, is the request's data
 module _ (fw ps : List ℕ) (s : Session) (c : Call) (k : For fw ps s.setup) (v : Lends fw ps c) (q : Request) where

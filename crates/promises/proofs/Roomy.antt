@@ -1,23 +1,14 @@
 -- The download has room where pages cover the target and positions stay below 2^32, and with room it isn't refused. Assumes nothing.
-use Prim.Native.Nat.{ℕ, suc, ◌+◌, ◌-◌, ◌<◌, ◌≤◌}
-use native.Mathlib.Numerals.{add-one}
-use native.Mathlib.Nat.{le_refl}
-use native.Mathlib.Omega.{arith}
-use mathlib.Core.Path.{◌≡◌, refl, ap, ◌∙◌}
-use mathlib.Core.Bool.{Bool, true, false}
-use mathlib.Core.List.{List}
-use lib.ListN.{length, drop, get_or, drop_of_length-le}
-use lib.Seq.{drop-cons}
-use lib.Dec.{ltb}
-use borrow.Author.Tests.{ltb-true, ltb-false}
-use Rattle.ground.proofs.Tests.{picked}
+use Rattle.std.proofs.Common.{Ok, ℕ, suc, ◌+◌, ◌-◌, ◌<◌, ◌≤◌, add-one, le_refl, arith, ◌≡◌, refl, ap, ◌∙◌, Bool, true, false, List, length, drop, get_or, drop_of_length-le, drop-cons, ltb, ltb-true, ltb-false}
 use Rattle.papers.specs.Plan.{sum}
 use Rattle.work.specs.Work.{limit, end_of}
-use Rattle.download.specs.Download.{covering, passed, erase_next, write_next, next_at, next_of, took_of}
-use Rattle.start.specs.Start.{dfuseb, target_of}
+use Rattle.download.specs.Download.{covering, passed, next_at, next_of, took_of}
+use Rattle.protocol.specs.Interface.{dfuseb}
+use Rattle.start.specs.Start.{target_of}
 use Rattle.plan.proofs.Pages.{covering_more, sum_covering}
 use Rattle.promises.specs.Words.{pick, DfuProtocol, Setup, Progress, Stage, Todo, download, DfuSansIo, setup_of, fresh}
 use Rattle.promises.specs.Fair.{Ready}
+use Rattle.promises.proofs.Wishes.{erase_picked, write_picked}
 use Rattle.promises.proofs.Wanted.{left, heads}
 use Rattle.promises.proofs.Lives.{Wants, Thrives}
 
@@ -54,19 +45,9 @@ cover_left ps i n h k =
     (ap (λ (x : List ℕ). sum (covering n x)) (drop-cons ps i 0 h) ∙ ap sum (covering_more n (get_or ps i 0) (drop (suc i) ps) k))
 
 wants_at : (st : Stage) (ps : List ℕ) (su : Setup) (pr : Progress) → room_at st ps su pr → Wants (download ps) (room ps su) su (next_at st ps su pr)
-unfolding took_of erase_next write_next
-wants_at Stage.Erasing ps su pr v =
-    picked P (ltb pr.erased (end_of su)) _ _
-    (λ e. picked P (ltb pr.page (length ps)) _ _
-    (λ f. picked P (ltb (pr.erased + get_or ps pr.page 0) limit) _ _
-    (λ g. on (ltb-true _ _ e) (ltb-true _ _ f))
-    (λ g. below (ltb-true _ _ e) (ltb-true _ _ f) (ltb-false _ _ g)))
-    (λ f. covered (ltb-true _ _ e) (ltb-false _ _ f)))
-    (λ e. tt)
+unfolding took_of
+wants_at Stage.Erasing ps su pr v = erase_picked (Wants (download ps) (room ps su) su) ps su pr on below covered (λ e. tt)
   where
-    P : Todo → Type 0
-    P t = Wants (download ps) (room ps su) su t
-
     covered : pr.erased < end_of su → length ps ≤ pr.page → ⊥
     covered e f = omega (arith, page_left ps pr.page (omega (arith, v.0)))
 
@@ -79,7 +60,7 @@ wants_at Stage.Erasing ps su pr v =
           omega (arith, v.0, sum_left ps pr.page f),
           rw (← z) (omega (arith, v.1, cover_left ps pr.page (end_of su - pr.erased) f (omega arith))),
         )
-wants_at Stage.Writing ps su pr v = picked (λ (t : Todo). Wants (download ps) (room ps su) su t) (ltb pr.accepted su.length) _ _ (λ e. tt) (λ e. tt)
+wants_at Stage.Writing ps su pr v = write_picked (λ (t : Todo). Wants (download ps) (room ps su) su (Ok t)) su pr (λ e. tt) (λ e. tt)
 wants_at Stage.Ending ps su pr v = tt
 
 -- THE DOWNLOAD THRIVES WHERE THERE IS ROOM

@@ -1,10 +1,6 @@
 -- What is left of the budget and what was sent make up the budget, whatever the work. Assumes nothing.
-use Prim.Native.Nat.{ℕ, suc, ◌+◌}
-use native.Mathlib.Omega.{arith}
-use mathlib.Core.Path.{◌≡◌}
-use mathlib.Core.List.{List, [], ◌∷◌}
-use lib.ListN.{length, length-append}
-use Rattle.promises.specs.Words.{Request, Setup, Todo, Work, Answer}
+use Rattle.std.proofs.Common.{ℕ, suc, ◌+◌, arith, ◌≡◌, List, [], ◌∷◌, length, length-append, Result, Ok, Err}
+use Rattle.promises.specs.Words.{Request, Setup, Todo, Work, Answer, Error}
 use Rattle.promises.specs.Run.{Event, sends, World, tell, after, after_by, transfers}
 use Rattle.promises.proofs.Steady.{KeptBy, Steady, tell_steady}
 
@@ -16,10 +12,10 @@ one_more : (n l : ℕ) (h : List Event) (q : Request) → Adds n (suc l) h → A
 unfolding transfers
 one_more n l h q v = omega (arith, v, length-append (transfers h) (q ∷ []))
 
-any_wish : (n : ℕ) (t : Todo) → KeptBy (Adds n) t
-any_wish n (Todo.Send c then) = λ l h v. one_more n l h _ v
-any_wish n (Todo.End e) = tt
-any_wish n (Todo.Refuse e) = tt
+any_wish : (n : ℕ) (t : Result Todo Error) → KeptBy (Adds n) t
+any_wish n (Ok (Todo.Send c then)) = λ l h v. one_more n l h _ v
+any_wish n (Ok (Todo.End e)) = tt
+any_wish n (Err e) = tt
 
 adds : (n : ℕ) (w : Work) (su : Setup) → Steady (Adds n) w su
 unfolding transfers

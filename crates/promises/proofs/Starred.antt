@@ -1,7 +1,5 @@
 -- Document 01's starred cases hold, and so do the published strings: one table, one proof. Assumes nothing.
-use mathlib.Core.Path.{◌≡◌, refl}
-use mathlib.Core.List.{map}
-use Rattle.ground.specs.Text.{codes}
+use Rattle.std.proofs.Common.{◌≡◌, refl, map}
 use Rattle.ground.specs.Bytes.{little_endian_value, field, prefix, bytes_low}
 use Rattle.papers.specs.Plan.{sum}
 use Rattle.numeral.specs.Number.{read_on, number_of}
@@ -16,5 +14,5 @@ use Rattle.promises.specs.Run.{after_by, in_time}
 use Rattle.promises.specs.Starred.{done_in, cases, run, wanted}
 
 pub starred_cases : map run cases ≡ map wanted cases
-unfolding codes prefix read_on number_of up_to end_of split scaled starred piece_of pieces checked sizes rsplit address_of dfuse_of interface_of sum on_first on_second on_poll told block_count erase_next write_next next_of took_of begun_of begin_of after_by in_time done_in bytes_low field little_endian_value
+unfolding prefix read_on number_of up_to end_of split scaled starred piece_of pieces checked sizes rsplit address_of dfuse_of interface_of sum on_first on_second on_poll told block_count erase_next write_next next_of took_of begun_of begin_of after_by in_time done_in bytes_low field little_endian_value
 starred_cases = refl

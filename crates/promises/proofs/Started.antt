@@ -1,18 +1,10 @@
 -- What start answers: a session at its first request, one that has finished at once, or none. Assumes nothing.
-use Prim.Native.Nat.{ℕ, zero, suc, ◌+◌, ◌<◌, ◌≤◌}
-use native.Mathlib.Omega.{arith}
-use mathlib.Core.Path.{◌≡◌, refl, sym, subst}
-use mathlib.Core.Logic.{◌⊎◌, inl, inr}
-use mathlib.Core.Bool.{Bool, true, false, true≢false}
-use mathlib.Core.List.{List}
-use lib.ListN.{length}
-use lib.Dec.{eqb, ltb}
-use borrow.Author.Tests.{eqb-true, ltb-false, leb-false}
+use Rattle.std.proofs.Common.{⊎_elim, ℕ, zero, suc, ◌+◌, ◌<◌, ◌≤◌, arith, ◌≡◌, refl, sym, subst, ◌⊎◌, inl, inr, Bool, true, false, true≢false, List, length, eqb, ltb, eqb-true, ltb-false, leb-false, Result, Ok, Err}
 use Rattle.ground.proofs.Tests.{picked}
 use Rattle.work.specs.Work.{limit, end_of, block_count}
-use Rattle.start.specs.Start.{dfuseb, nothingb, beyondb, overb, max_blocks, manyb, starting, begun_of, begin_of}
+use Rattle.protocol.specs.Interface.{dfuseb}
+use Rattle.start.specs.Start.{nothingb, beyondb, overb, max_blocks, manyb, starting, begun_of, begin_of}
 use Rattle.start.specs.declared.StartError.{StartError}
-use Rattle.start.specs.declared.Started.{Started}
 use Rattle.plan.specs.Sent.{Begins}
 use Rattle.promises.specs.Words.{DfuProtocol, Setup, End, Phase, Session, mk, DfuSansIo, setup_of, fresh}
 use Rattle.promises.specs.Run.{opened, transfers}
@@ -23,9 +15,9 @@ pub record Within (io : DfuSansIo) (p : DfuProtocol) (n pages : ℕ) : Type 0 wh
   pub numbered : dfuseb p ≡ true → block_count n io.descriptor.transfer_size ≤ max_blocks
 
 -- what holds of every refusal, of the finished start and of a begun one, holds of start
-pub start_picked : (P : Started → Type 0) (io : DfuSansIo) (p : DfuProtocol) (n pages budget : ℕ) → ((e : StartError) → P (Started.Refused e))
-    → (nothingb (setup_of io p n pages) ≡ true → P (Started.Session (mk (setup_of io p n pages) (fresh (setup_of io p n pages)) budget (Phase.Finished End.Stays))))
-    → ((l : ℕ) → budget ≡ suc l → nothingb (setup_of io p n pages) ≡ false → Within io p n pages → P (Started.Session (mk (setup_of io p n pages) (fresh (setup_of io p n pages)) l Phase.First)))
+pub start_picked : (P : Result Session StartError → Type 0) (io : DfuSansIo) (p : DfuProtocol) (n pages budget : ℕ) → ((e : StartError) → P (Err e))
+    → (nothingb (setup_of io p n pages) ≡ true → P (Ok (mk (setup_of io p n pages) (fresh (setup_of io p n pages)) budget (Phase.Finished End.Stays))))
+    → ((l : ℕ) → budget ≡ suc l → nothingb (setup_of io p n pages) ≡ false → Within io p n pages → P (Ok (mk (setup_of io p n pages) (fresh (setup_of io p n pages)) l Phase.First)))
     → P (begin_of io p n pages budget)
 unfolding begin_of begun_of
 start_picked P io p n pages budget not done on =
@@ -44,14 +36,11 @@ start_picked P io p n pages budget not done on =
     numbered DfuProtocol.Dfu e d = absurd (true≢false (sym d))
     numbered (DfuProtocol.Dfuse a) e d = ltb-false _ _ e
 
-    last : (b : ℕ) → ((l : ℕ) → b ≡ suc l → P (Started.Session (mk (setup_of io p n pages) (fresh (setup_of io p n pages)) l Phase.First))) → P (starting (setup_of io p n pages) b)
+    last : (b : ℕ) → ((l : ℕ) → b ≡ suc l → P (Ok (mk (setup_of io p n pages) (fresh (setup_of io p n pages)) l Phase.First))) → P (starting (setup_of io p n pages) b)
     last zero f = not _
     last (suc l) f = f l refl
 
-not_begun : {e : StartError} {s : Session} → Started.Refused e ≡ Started.Session s → ⊥
-not_begun e = let z : ◌≡◌ {A = ℕ} 0 1 = cc in omega arith
-
-begun_is : {r s : Session} → Started.Session r ≡ Started.Session s → s ≡ r
+begun_is : {r s : Session} → ◌≡◌ {A = Result Session StartError} (Ok r) (Ok s) → s ≡ r
 begun_is e = cc
 
 something : (su : Setup) → 0 < su.length → 0 < su.size → nothingb su ≡ true → ⊥
@@ -63,59 +52,73 @@ pub begun : (io : DfuSansIo) (p : DfuProtocol) (fw ps : List ℕ) (budget : ℕ)
     → Begins io p fw ps budget s
     → (l : ℕ) × (budget ≡ suc l) × (s ≡ mk (setup_of io p (length fw) (length ps)) (fresh (setup_of io p (length fw) (length ps))) l Phase.First)
 begun io p fw ps budget s h k =
-    start_picked P io p (length fw) (length ps) budget (λ e z. absurd (not_begun z))
+    start_picked P io p (length fw) (length ps) budget (λ e z. cc)
     (λ e z. absurd (something (setup_of io p (length fw) (length ps)) h k e))
     (λ l b e t z. (l, b, begun_is z))
   where
-    P : Started → Type 0
-    P x = x ≡ Started.Session s
+    P : Result Session StartError → Type 0
+    P x = x ≡ Ok s
         → (l : ℕ) × (budget ≡ suc l) × (s ≡ mk (setup_of io p (length fw) (length ps)) (fresh (setup_of io p (length fw) (length ps))) l Phase.First)
+
+-- so what holds of that holds of it
+pub begun_holds : (P : Session → Type 0) (io : DfuSansIo) (p : DfuProtocol) (fw ps : List ℕ) (budget : ℕ) (s : Session) → 0 < length fw → 0 < io.descriptor.transfer_size
+    → Begins io p fw ps budget s
+    → ((l : ℕ) → budget ≡ suc l → P (mk (setup_of io p (length fw) (length ps)) (fresh (setup_of io p (length fw) (length ps))) l Phase.First)) → P s
+begun_holds P io p fw ps budget s h k b first = let (l, z, e) = begun io p fw ps budget s h k b in subst P (sym e) (first l z)
 
 -- A STARTED SESSION, whatever the firmware: at its first request, or finished at once
 pub started : (io : DfuSansIo) (p : DfuProtocol) (fw ps : List ℕ) (budget : ℕ) (s : Session) → Begins io p fw ps budget s
     → (l : ℕ) × ((s ≡ mk (setup_of io p (length fw) (length ps)) (fresh (setup_of io p (length fw) (length ps))) l Phase.First)
     ⊎ (s ≡ mk (setup_of io p (length fw) (length ps)) (fresh (setup_of io p (length fw) (length ps))) l (Phase.Finished End.Stays)))
 started io p fw ps budget s =
-    start_picked P io p (length fw) (length ps) budget (λ e z. absurd (not_begun z)) (λ e z. (budget, inr (begun_is z))) (λ l b e t z. (l, inl (begun_is z)))
+    start_picked P io p (length fw) (length ps) budget (λ e z. cc) (λ e z. (budget, inr (begun_is z))) (λ l b e t z. (l, inl (begun_is z)))
   where
-    P : Started → Type 0
-    P x = x ≡ Started.Session s
+    P : Result Session StartError → Type 0
+    P x = x ≡ Ok s
         → (l : ℕ) × ((s ≡ mk (setup_of io p (length fw) (length ps)) (fresh (setup_of io p (length fw) (length ps))) l Phase.First)
         ⊎ (s ≡ mk (setup_of io p (length fw) (length ps)) (fresh (setup_of io p (length fw) (length ps))) l (Phase.Finished End.Stays)))
+
+-- so what holds of both at whatever budget is left holds of it
+pub started_holds : (P : Session → Type 0) (io : DfuSansIo) (p : DfuProtocol) (fw ps : List ℕ) (budget : ℕ) (s : Session) → Begins io p fw ps budget s
+    → ((l : ℕ) → P (mk (setup_of io p (length fw) (length ps)) (fresh (setup_of io p (length fw) (length ps))) l Phase.First))
+    → ((l : ℕ) → P (mk (setup_of io p (length fw) (length ps)) (fresh (setup_of io p (length fw) (length ps))) l (Phase.Finished End.Stays))) → P s
+started_holds P io p fw ps budget s b first done =
+    let (l, e) = started io p fw ps budget s b in
+    ⊎_elim (λ q. subst P (sym q) (first l)) (λ q. subst P (sym q) (done l)) e
 
 -- and what start has tested, unless it finished at once
 pub start_within : (io : DfuSansIo) (p : DfuProtocol) (fw ps : List ℕ) (budget : ℕ) (s : Session) → Begins io p fw ps budget s
     → Within io p (length fw) (length ps)
     ⊎ (s ≡ mk (setup_of io p (length fw) (length ps)) (fresh (setup_of io p (length fw) (length ps))) budget (Phase.Finished End.Stays))
 start_within io p fw ps budget s =
-    start_picked P io p (length fw) (length ps) budget (λ e z. absurd (not_begun z)) (λ e z. inr (begun_is z)) (λ l b e t z. inl t)
+    start_picked P io p (length fw) (length ps) budget (λ e z. cc) (λ e z. inr (begun_is z)) (λ l b e t z. inl t)
   where
-    P : Started → Type 0
-    P x = x ≡ Started.Session s
+    P : Result Session StartError → Type 0
+    P x = x ≡ Ok s
         → Within io p (length fw) (length ps)
         ⊎ (s ≡ mk (setup_of io p (length fw) (length ps)) (fresh (setup_of io p (length fw) (length ps))) budget (Phase.Finished End.Stays))
 
 pub begun_within : (io : DfuSansIo) (p : DfuProtocol) (fw ps : List ℕ) (budget : ℕ) (s : Session) → 0 < length fw → 0 < io.descriptor.transfer_size
     → Begins io p fw ps budget s → Within io p (length fw) (length ps)
 begun_within io p fw ps budget s h k =
-    start_picked P io p (length fw) (length ps) budget (λ e z. absurd (not_begun z))
+    start_picked P io p (length fw) (length ps) budget (λ e z. cc)
     (λ e z. absurd (something (setup_of io p (length fw) (length ps)) h k e))
     (λ l b e t z. t)
   where
-    P : Started → Type 0
-    P x = x ≡ Started.Session s → Within io p (length fw) (length ps)
+    P : Result Session StartError → Type 0
+    P x = x ≡ Ok s → Within io p (length fw) (length ps)
 
 -- the budget at the start: what is left, and the first request if there is one
 pub start_adds : (io : DfuSansIo) (p : DfuProtocol) (fw ps : List ℕ) (budget : ℕ) (s : Session) → Begins io p fw ps budget s
     → s.left + length (transfers (opened s).past) ≡ budget
 unfolding transfers
 start_adds io p fw ps budget s =
-    start_picked P io p (length fw) (length ps) budget (λ e z. absurd (not_begun z))
+    start_picked P io p (length fw) (length ps) budget (λ e z. cc)
     (λ e z. subst Q (sym (begun_is z)) (omega arith))
     (λ l b e t z. subst Q (sym (begun_is z)) (omega (arith, b)))
   where
     Q : Session → Type 0
     Q x = x.left + length (transfers (opened x).past) ≡ budget
 
-    P : Started → Type 0
-    P x = x ≡ Started.Session s → Q s
+    P : Result Session StartError → Type 0
+    P x = x ≡ Ok s → Q s

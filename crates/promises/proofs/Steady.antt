@@ -1,11 +1,8 @@
 -- Any work: what every transfer and every reply keeps, whatever the phase, holds after each told answer. Assumes nothing.
-use Prim.Native.Nat.{ℕ, suc}
-use mathlib.Core.Path.{◌≡◌, refl, subst}
-use mathlib.Core.List.{List, ◌∷◌, ◌++◌}
-use lib.Dec.{eqb}
+use Rattle.std.proofs.Common.{ℕ, suc, ◌≡◌, refl, subst, List, ◌∷◌, ◌++◌, eqb, Result, Ok, Err}
 use Rattle.ground.proofs.Tests.{picked}
 use Rattle.work.specs.Work.{wait_after}
-use Rattle.promises.specs.Words.{Command, Request, Setup, Progress, Todo, Wait, Work, Phase, Session, Answer}
+use Rattle.promises.specs.Words.{Command, Request, Setup, Progress, Todo, Wait, Work, Phase, Session, Answer, Error}
 use Rattle.promises.specs.Run.{Event, sends, hears, World, tell, sent_by, waits, resets}
 use Rattle.promises.proofs.Walk.{Claims, Holds, Wished, WaitingAt, ClaimAt, Good, tell_good, either_end}
 use Rattle.machine.specs.Machine.{asks_at}
@@ -26,10 +23,10 @@ module _ (P : ℕ → List Event → Type 0) where
   }
 
   -- what is asked of the claim: each transfer keeps it, each reply, each wait, and the reset
-  abbrev pub KeptBy : Todo → Type 0
-  KeptBy (Todo.Send c then) = (l : ℕ) (h : List Event) → P (suc l) h → P l (sends (Request.Command c) ∷ h)
-  KeptBy (Todo.End e) = Unit
-  KeptBy (Todo.Refuse e) = Unit
+  abbrev pub KeptBy : Result Todo Error → Type 0
+  KeptBy (Ok (Todo.Send c then)) = (l : ℕ) (h : List Event) → P (suc l) h → P l (sends (Request.Command c) ∷ h)
+  KeptBy (Ok (Todo.End e)) = Unit
+  KeptBy (Err e) = Unit
 
   pub record Steady (w : Work) (su : Setup) : Type 0 where
     pub status : (l : ℕ) (h : List Event) → P (suc l) h → P l (sends Request.GetStatus ∷ h)
@@ -43,14 +40,12 @@ module _ (P : ℕ → List Event → Type 0) where
     begins : Steady w su → (c : Command) (n : ℕ) (pr : Progress) (l : ℕ) (h : List Event) → P l h
         → WaitingAt w su steady (wait_after su c n) pr l (sent_by (asks_at (Phase.Waiting (wait_after su c n))) ++ h)
     begins g (Command.Erase a) n pr l h v = g.pause l h 0 v
-    begins g (Command.SetAddress a) n pr l h v = g.pause l h 0 v
-    begins g (Command.Block b f m) n pr l h v = g.pause l h 0 v
-    begins g (Command.Empty b) n pr l h v = g.pause l h 0 v
+    begins g c n pr l h v = g.pause l h 0 v
 
-    wished : Steady w su → (pr : Progress) (l : ℕ) (h : List Event) (t : Todo) → KeptBy t → P l h → Wished w su steady pr l h t
-    wished g pr l h (Todo.Send c then) k v = λ m e. let on : P m (sends (Request.Command c) ∷ h) = k m h (subst (λ (x : ℕ). P x h) e v) in (on, λ n e. begins g c n _ m _ on)
-    wished g pr l h (Todo.End e) k v = either_end w su steady pr l h e v (g.resetting l h v)
-    wished g pr l h (Todo.Refuse e) k v = v
+    wished : Steady w su → (pr : Progress) (l : ℕ) (h : List Event) (t : Result Todo Error) → KeptBy t → P l h → Wished w su steady pr l h t
+    wished g pr l h (Ok (Todo.Send c then)) k v = λ m e. let on : P m (sends (Request.Command c) ∷ h) = k m h (subst (λ (x : ℕ). P x h) e v) in (on, λ n e. begins g c n _ m _ on)
+    wished g pr l h (Ok (Todo.End e)) k v = either_end w su steady pr l h e v (g.resetting l h v)
+    wished g pr l h (Err e) k v = v
 
     holds : Steady w su → Holds w su steady
     holds g = record {
@@ -77,26 +72,14 @@ module _ (P : ℕ → List Event → Type 0) where
     }
 
     at_phase : Steady w su → (p : Phase) (pr : Progress) (l : ℕ) (h : List Event) → P l h → ClaimAt w su steady p pr l h
-    at_phase g Phase.First pr l h v = v
-    at_phase g Phase.Clear pr l h v = v
-    at_phase g Phase.Second pr l h v = v
     at_phase g (Phase.Sent c) pr l h v = (v, λ n e. begins g c n (w.took su pr c n) l h v)
-    at_phase g (Phase.Waiting (Wait.Pause b t ms)) pr l h v = v
     at_phase g (Phase.Waiting (Wait.Poll b t)) pr l h v = v
-    at_phase g Phase.Resetting pr l h v = v
-    at_phase g (Phase.Finished e) pr l h v = v
-    at_phase g (Phase.Refused e) pr l h v = v
+    at_phase g p pr l h v = v
 
     of_phase : (p : Phase) (pr : Progress) (l : ℕ) (h : List Event) → ClaimAt w su steady p pr l h → P l h
-    of_phase Phase.First pr l h v = v
-    of_phase Phase.Clear pr l h v = v
-    of_phase Phase.Second pr l h v = v
     of_phase (Phase.Sent c) pr l h v = v.0
-    of_phase (Phase.Waiting (Wait.Pause b t ms)) pr l h v = v
     of_phase (Phase.Waiting (Wait.Poll b t)) pr l h v = v
-    of_phase Phase.Resetting pr l h v = v
-    of_phase (Phase.Finished e) pr l h v = v
-    of_phase (Phase.Refused e) pr l h v = v
+    of_phase p pr l h v = v
 
   told_good : (w : Work) (x : World) (a : Answer) → Steady w x.session.setup → P x.session.left x.past
       → Good w x.session.setup steady (tell w x a)
@@ -113,10 +96,10 @@ module _ (P : ℕ → List Event → Type 0) where
       of_phase w x.session.setup t.session.phase t.session.progress t.session.left t.past (told_good w x a g v).holds
 
 -- the setup stays
-any_wish : (t : Todo) → KeptBy (λ l h. Unit) t
-any_wish (Todo.Send c then) = λ l h v. tt
-any_wish (Todo.End e) = tt
-any_wish (Todo.Refuse e) = tt
+any_wish : (t : Result Todo Error) → KeptBy (λ l h. Unit) t
+any_wish (Ok (Todo.Send c then)) = λ l h v. tt
+any_wish (Ok (Todo.End e)) = tt
+any_wish t = tt
 
 pub tell_setup : (w : Work) (x : World) (a : Answer) → (tell w x a).session.setup ≡ x.session.setup
 tell_setup w x a =

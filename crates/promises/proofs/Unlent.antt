@@ -1,22 +1,16 @@
 -- A run that lends the same things at each call is never refused by 25. Assumes nothing.
-use Prim.Native.Nat.{ℕ, ◌+◌}
-use native.Mathlib.Omega.{arith}
-use mathlib.Core.Path.{◌≡◌, refl, ap, sym, subst, ◌∙◌}
-use mathlib.Core.Logic.{⊎_elim}
-use mathlib.Core.List.{List}
-use lib.Dec.{ltb}
-use lib.ListN.{length, get_or}
+use Rattle.std.proofs.Common.{ℕ, ◌≡◌, refl, ap, sym, subst, ◌∙◌, ⊎_elim, List, length, Result, Ok}
 use Rattle.ground.proofs.Tests.{picked}
-use Rattle.work.specs.Work.{limit, end_of}
-use Rattle.download.specs.Download.{erase_next, write_next, next_at, next_of, end_for}
+use Rattle.download.specs.Download.{next_at, next_of, end_for}
 use Rattle.machine.specs.Machine.{asks_at}
 use Rattle.plan.specs.Sent.{Begins}
 use Rattle.promises.specs.Words.{DfuProtocol, Setup, Progress, Stage, Todo, Wait, End, Error, download, Phase, Ask, Session, Step, told, DfuSansIo, setup_of}
 use Rattle.promises.specs.Run.{Event, opened, after, World, tell}
 use Rattle.promises.specs.Calls.{Call, outcome, calls, Lends, AllLend, answers}
+use Rattle.promises.proofs.Wishes.{erase_picked, write_picked}
 use Rattle.promises.proofs.Walk.{Claims, Ending, Holds, ClaimAt, Good, tell_good, run_good}
 use Rattle.promises.proofs.Lasting.{lasting, OfWish, lasting_holds, unit_waits}
-use Rattle.promises.proofs.Started.{started}
+use Rattle.promises.proofs.Started.{started_holds}
 use Rattle.promises.proofs.Real.{For, same_calls, same_step, answers_told}
 
 -- a refused session was refused by one of the refusals that end a session
@@ -24,22 +18,15 @@ abbrev unlent : Claims
 unlent = lasting (λ b t. Unit) Unit (λ e. Unit) Ending
 
 module _ (ps : List ℕ) (su : Setup) where
-  abbrev Wish : Todo → Type 0
+  abbrev Wish : Result Todo Error → Type 0
   Wish t = OfWish (λ b t. Unit) Unit (λ e. Unit) Ending t
 
-  end_wish : Wish (Todo.End (end_for su))
-  end_wish = picked (λ (e : End). Wish (Todo.End e)) su.tolerant _ _ (λ e. tt) (λ e. picked (λ (x : End). Wish (Todo.End x)) su.detach _ _ (λ f. tt) (λ f. tt))
+  end_wish : Wish (Ok (Todo.End (end_for su)))
+  end_wish = picked (λ (e : End). Wish (Ok (Todo.End e))) su.tolerant _ _ (λ e. tt) (λ e. picked (λ (x : End). Wish (Ok (Todo.End x))) su.detach _ _ (λ f. tt) (λ f. tt))
 
   wishes : (st : Stage) (pr : Progress) → Wish (next_at st ps su pr)
-  unfolding erase_next write_next
-  wishes Stage.Erasing pr =
-      picked Wish (ltb pr.erased (end_of su)) _ _
-      (λ e. picked Wish (ltb pr.page (length ps)) _ _
-      (λ f. picked Wish (ltb (pr.erased + get_or ps pr.page 0) limit) _ _ (λ g. tt) (λ g. tt))
-      (λ f. tt))
-      (λ e. tt)
-  wishes Stage.Writing pr =
-      picked Wish (ltb pr.accepted su.length) _ _ (λ e. tt) (λ e. tt)
+  wishes Stage.Erasing pr = erase_picked Wish ps su pr (λ e f. tt) (λ e f g. tt) (λ e f. tt) (λ e. tt)
+  wishes Stage.Writing pr = write_picked (λ (t : Todo). Wish (Ok t)) su pr (λ e. tt) (λ e. tt)
   wishes Stage.Ending pr = end_wish
 
   holds : Holds (download ps) su unlent
@@ -50,21 +37,12 @@ module _ (ps : List ℕ) (su : Setup) where
 
   -- such a session doesn't say 25
   says_other : (p : Phase) (pr : Progress) (l : ℕ) (h : List Event) → ClaimAt (download ps) su unlent p pr l h → asks_at p ≡ Ask.Refused Error.NotAsAtStart → ⊥
-  says_other Phase.First pr l h v e = let z : ◌≡◌ {A = ℕ} 0 1 = cc in omega arith
-  says_other Phase.Clear pr l h v e = let z : ◌≡◌ {A = ℕ} 0 1 = cc in omega arith
-  says_other Phase.Second pr l h v e = let z : ◌≡◌ {A = ℕ} 0 1 = cc in omega arith
-  says_other (Phase.Sent c) pr l h v e = let z : ◌≡◌ {A = ℕ} 0 1 = cc in omega arith
-  says_other (Phase.Waiting (Wait.Pause b t ms)) pr l h v e = let z : ◌≡◌ {A = ℕ} 0 1 = cc in omega arith
-  says_other (Phase.Waiting (Wait.Poll b t)) pr l h v e = let z : ◌≡◌ {A = ℕ} 0 1 = cc in omega arith
-  says_other Phase.Resetting pr l h v e = let z : ◌≡◌ {A = ℕ} 0 1 = cc in omega arith
-  says_other (Phase.Finished x) pr l h v e = let z : ◌≡◌ {A = ℕ} 0 1 = cc in omega arith
   says_other (Phase.Refused x) pr l h v e = subst Ending is v
     where
       is : x ≡ Error.NotAsAtStart
       is = cc
-
-not_24 : Ask.Refused Error.NotAwaited ≡ Ask.Refused Error.NotAsAtStart → ⊥
-not_24 e = let z : ◌≡◌ {A = ℕ} 0 1 = cc in omega arith
+  says_other (Phase.Waiting (Wait.Pause b t ms)) pr l h v e = cc
+  says_other p pr l h v e = cc
 
 module _ (io : DfuSansIo) (p : DfuProtocol) (fw ps : List ℕ) (budget : ℕ) (s : Session) (before : List Call) (c : Call) where
   abbrev su : Setup
@@ -72,11 +50,7 @@ module _ (io : DfuSansIo) (p : DfuProtocol) (fw ps : List ℕ) (budget : ℕ) (s
 
   start_good : Begins io p fw ps budget s → Good (download ps) su unlent (opened s)
   start_good b =
-      let (l, e) = started io p fw ps budget s b in
-      ⊎_elim
-      (λ q. subst (λ (x : Session). Good (download ps) su unlent (opened x)) (sym q) (record { setup = refl; holds = tt }))
-      (λ q. subst (λ (x : Session). Good (download ps) su unlent (opened x)) (sym q) (record { setup = refl; holds = tt }))
-      e
+      started_holds (λ (x : Session). Good (download ps) su unlent (opened x)) io p fw ps budget s b (λ l. record { setup = refl; holds = tt }) (λ l. record { setup = refl; holds = tt })
 
   -- 25 IS NEVER GIVEN
   pub never_25 : Begins io p fw ps budget s → AllLend fw ps before → Lends fw ps c
@@ -95,5 +69,5 @@ module _ (io : DfuSansIo) (p : DfuProtocol) (fw ps : List ℕ) (budget : ℕ) (s
       let q : y.says ≡ Ask.Refused Error.NotAsAtStart = sym (ap (λ (z : Step). z.says) step) ∙ e in
       ⊎_elim
       (λ z. says_other ps su y.next.phase y.next.progress y.next.left _ t.holds (sym z ∙ q))
-      (λ z. not_24 (sym z ∙ q))
+      (λ z. cc)
       (answers_told (download ps) x.session c.answer)

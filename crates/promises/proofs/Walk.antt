@@ -1,15 +1,10 @@
 -- Any work: what every told answer keeps, said of the progress, the budget left and the past. One walk of the machine. Assumes nothing.
-use Prim.Native.Nat.{ℕ, zero, suc}
-use mathlib.Core.Path.{◌≡◌, refl, sym, subst}
-use mathlib.Core.Bool.{Bool, true, false}
-use mathlib.Core.List.{List, [], ◌∷◌, ◌++◌}
-use lib.Dec.{eqb}
-use borrow.Author.Tests.{eqb-true}
+use Rattle.std.proofs.Common.{ℕ, zero, suc, ◌≡◌, refl, sym, subst, Bool, true, false, List, [], ◌∷◌, ◌++◌, eqb, eqb-true, Result, Ok, Err}
 use Rattle.ground.proofs.Tests.{picked}
 use Rattle.get_status.specs.Names.{state_byte}
 use Rattle.get_status.specs.declared.State.{State}
 use Rattle.get_status.specs.declared.GetStatusMessage.{GetStatusMessage}
-use Rattle.get_status.specs.declared.Reply.{Reply}
+use Rattle.get_status.specs.declared.Error.{Error as ReplyError}
 use Rattle.get_status.specs.declared.Met.{Met}
 use Rattle.work.specs.Work.{wait_after, takenb}
 use Rattle.machine.specs.Machine.{refuse, issue, end_phase, proceed, on_count, first_reply, later_reply, reading, on_first, on_second, on_met, on_poll, asks_at}
@@ -64,10 +59,10 @@ module _ (w : Work) (su : Setup) (c : Claims) where
   EndAt (Phase.Refused e) pr l h = ⊥
 
   -- what a wish leads to
-  abbrev pub Wished : Progress → ℕ → List Event → Todo → Type 0
-  Wished pr l h (Todo.Send d then) = (m : ℕ) → l ≡ suc m → SentAt d then m (sends (Request.Command d) ∷ h)
-  Wished pr l h (Todo.End e) = EndAt (end_phase e) pr l h
-  Wished pr l h (Todo.Refuse e) = c.refused e l h
+  abbrev pub Wished : Progress → ℕ → List Event → Result Todo Error → Type 0
+  Wished pr l h (Ok (Todo.Send d then)) = (m : ℕ) → l ≡ suc m → SentAt d then m (sends (Request.Command d) ∷ h)
+  Wished pr l h (Ok (Todo.End e)) = EndAt (end_phase e) pr l h
+  Wished pr l h (Err e) = c.refused e l h
 
   -- what is asked of the claims: each step of the machine leads from one to the next
   pub record Holds : Type 0 where
@@ -132,21 +127,20 @@ module _ (w : Work) (su : Setup) (c : Claims) where
     issue_kept pr then (suc l) h q p a v f =
         record { setup = refl; holds = subst (λ (x : Ask). ClaimAt p then l (sent_by x ++ h)) (sym a) (f l refl) }
 
-    proceed_kept : (pr : Progress) (l : ℕ) (h : List Event) (t : Todo) → Wished pr l h t → c.always l h → Kept h (go (over su (proceed pr l t)))
-    proceed_kept pr l h (Todo.Send d then) v s = issue_kept pr then l h _ (Phase.Sent d) refl s v
-    proceed_kept pr l h (Todo.End End.Stays) v s = record { setup = refl; holds = v }
-    proceed_kept pr l h (Todo.End End.Reset) v s = record { setup = refl; holds = v }
-    proceed_kept pr l h (Todo.Refuse e) v s = record { setup = refl; holds = v }
+    proceed_kept : (pr : Progress) (l : ℕ) (h : List Event) (t : Result Todo Error) → Wished pr l h t → c.always l h → Kept h (go (over su (proceed pr l t)))
+    proceed_kept pr l h (Ok (Todo.Send d then)) v s = issue_kept pr then l h _ (Phase.Sent d) refl s v
+    proceed_kept pr l h (Ok (Todo.End End.Stays)) v s = record { setup = refl; holds = v }
+    proceed_kept pr l h t v s = record { setup = refl; holds = v }
 
     wish_kept : (pr : Progress) (l : ℕ) (h : List Event) → c.at_wish pr l h → Kept h (go (over su (proceed pr l (w.next su pr))))
     wish_kept pr l h v = proceed_kept pr l h (w.next su pr) (g.wish pr l h v) (g.cut_wish pr l h v)
 
     -- a reply that is read, and one that can't be
-    reading_kept : (pr : Progress) (l : ℕ) (h : List Event) (r : Reply) (f : GetStatusMessage → Moved) → c.always l h
+    reading_kept : (pr : Progress) (l : ℕ) (h : List Event) (r : Result GetStatusMessage ReplyError) (f : GetStatusMessage → Moved) → c.always l h
         → ((m : GetStatusMessage) → Kept (hears (state_byte m.state) m.poll_timeout ∷ h) (go (over su (f m)))) → Kept (shown_by r ++ h) (go (over su (reading pr l r f)))
-    reading_kept pr l h (Reply.ResponseTooShort got) f v k = refuse_kept pr l h _ tt v
-    reading_kept pr l h (Reply.StatusError status) f v k = refuse_kept pr l h _ tt v
-    reading_kept pr l h (Reply.Read m) f v k = k m
+    reading_kept pr l h (Ok m) f v k = k m
+    reading_kept pr l h (Err (ReplyError.ResponseTooShort got)) f v k = refuse_kept pr l h _ tt v
+    reading_kept pr l h r f v k = refuse_kept pr l h _ tt v
 
     first_kept : (pr : Progress) (l : ℕ) (h : List Event) (m : GetStatusMessage) → c.at_first_lem pr l h
         → Kept (hears (state_byte m.state) m.poll_timeout ∷ h) (go (over su (on_first pr l m)))
@@ -178,15 +172,13 @@ module _ (w : Work) (su : Setup) (c : Claims) where
         (λ f. record { setup = refl; holds = subst (λ (x : ℕ). c.pausing b t pr l (waits m.poll_timeout ∷ hears x m.poll_timeout ∷ h)) (sym (eqb-true _ _ f)) (g.busy b t pr l h _ v) })
         (λ f. refuse_kept pr l _ _ tt (g.hear l h _ _ (g.cut_looking b t pr l h v))))
       where
-        P : Met → Type 0
+        P : Result Met ReplyError → Type 0
         P x = Kept (hears (state_byte m.state) m.poll_timeout ∷ h) (go (over su (on_met pr l b t (w.next su pr) x)))
 
     -- a count: the wait begins, or the block was not taken whole
     wait_kept : (pr : Progress) (l : ℕ) (h : List Event) (d : Command) (n : ℕ) → WaitingAt (wait_after su d n) pr l (sent_by (asks_at (Phase.Waiting (wait_after su d n))) ++ h) → Kept h (go (mk su pr l (Phase.Waiting (wait_after su d n))))
     wait_kept pr l h (Command.Erase a) n v = record { setup = refl; holds = v }
-    wait_kept pr l h (Command.SetAddress a) n v = record { setup = refl; holds = v }
-    wait_kept pr l h (Command.Block b f m) n v = record { setup = refl; holds = v }
-    wait_kept pr l h (Command.Empty b) n v = record { setup = refl; holds = v }
+    wait_kept pr l h c n v = record { setup = refl; holds = v }
 
     count_kept : (pr : Progress) (l : ℕ) (h : List Event) (d : Command) (n : ℕ) → SentAt d pr l h → Kept h (go (over su (on_count su pr l d (w.took su pr d n) n)))
     count_kept pr l h d n v =
@@ -195,49 +187,24 @@ module _ (w : Work) (su : Setup) (c : Claims) where
     -- one told answer
     pub kept : (p : Phase) (pr : Progress) (l : ℕ) (h : List Event) (a : Answer) → ClaimAt p pr l h
         → Kept (heard_at p a ++ h) (told_at w su pr l p a)
-    kept Phase.First pr l h (count n) v = stay_kept Phase.First pr l h _ v
     kept Phase.First pr l h (reply bs) v =
         reading_kept pr l h (first_reply bs) (on_first pr l) (g.cut_first pr l h v) (λ m. first_kept pr l h m v)
-    kept Phase.First pr l h waited v = stay_kept Phase.First pr l h _ v
-    kept Phase.First pr l h was_reset v = stay_kept Phase.First pr l h _ v
-    kept Phase.First pr l h failed v = refuse_kept pr l h _ tt (g.cut_first pr l h v)
     kept Phase.Clear pr l h (count n) v =
         issue_kept pr pr l h _ Phase.Second refl (g.cut_clear pr l h v) (λ m e. g.clear pr m h (subst (λ (x : ℕ). c.at_clear pr x h) e v))
-    kept Phase.Clear pr l h (reply bs) v = stay_kept Phase.Clear pr l h _ v
-    kept Phase.Clear pr l h waited v = stay_kept Phase.Clear pr l h _ v
-    kept Phase.Clear pr l h was_reset v = stay_kept Phase.Clear pr l h _ v
-    kept Phase.Clear pr l h failed v = refuse_kept pr l h _ tt (g.cut_clear pr l h v)
-    kept Phase.Second pr l h (count n) v = stay_kept Phase.Second pr l h _ v
     kept Phase.Second pr l h (reply bs) v =
         reading_kept pr l h (later_reply bs) (on_second pr l (w.next su pr)) (g.cut_second pr l h v) (λ m. second_kept pr l h m v)
-    kept Phase.Second pr l h waited v = stay_kept Phase.Second pr l h _ v
-    kept Phase.Second pr l h was_reset v = stay_kept Phase.Second pr l h _ v
-    kept Phase.Second pr l h failed v = refuse_kept pr l h _ tt (g.cut_second pr l h v)
     kept (Phase.Sent d) pr l h (count n) v = count_kept pr l h d n v
-    kept (Phase.Sent d) pr l h (reply bs) v = stay_kept (Phase.Sent d) pr l h _ v
-    kept (Phase.Sent d) pr l h waited v = stay_kept (Phase.Sent d) pr l h _ v
-    kept (Phase.Sent d) pr l h was_reset v = stay_kept (Phase.Sent d) pr l h _ v
-    kept (Phase.Sent d) pr l h failed v = refuse_kept pr l h _ tt v.0
-    kept (Phase.Waiting (Wait.Pause b t ms)) pr l h (count n) v = stay_kept (Phase.Waiting (Wait.Pause b t ms)) pr l h _ v
-    kept (Phase.Waiting (Wait.Pause b t ms)) pr l h (reply bs) v = stay_kept (Phase.Waiting (Wait.Pause b t ms)) pr l h _ v
     kept (Phase.Waiting (Wait.Pause b t ms)) pr l h waited v =
         issue_kept pr pr l h _ (Phase.Waiting (Wait.Poll b t)) refl (g.cut_pausing b t pr l h v)
         (λ m e. g.look b t pr m h (subst (λ (x : ℕ). c.pausing b t pr x h) e v))
-    kept (Phase.Waiting (Wait.Pause b t ms)) pr l h was_reset v = stay_kept (Phase.Waiting (Wait.Pause b t ms)) pr l h _ v
     kept (Phase.Waiting (Wait.Pause b t ms)) pr l h failed v = stay_kept (Phase.Waiting (Wait.Pause b t ms)) pr l h _ v
-    kept (Phase.Waiting (Wait.Poll b t)) pr l h (count n) v = stay_kept (Phase.Waiting (Wait.Poll b t)) pr l h _ v
     kept (Phase.Waiting (Wait.Poll b t)) pr l h (reply bs) v =
         reading_kept pr l h (later_reply bs) (on_poll pr l b t (w.next su pr)) (g.cut_looking b t pr l h v) (λ m. poll_kept b t pr l h m v)
-    kept (Phase.Waiting (Wait.Poll b t)) pr l h waited v = stay_kept (Phase.Waiting (Wait.Poll b t)) pr l h _ v
-    kept (Phase.Waiting (Wait.Poll b t)) pr l h was_reset v = stay_kept (Phase.Waiting (Wait.Poll b t)) pr l h _ v
-    kept (Phase.Waiting (Wait.Poll b t)) pr l h failed v = refuse_kept pr l h _ tt (g.cut_looking b t pr l h v)
-    kept Phase.Resetting pr l h (count n) v = stay_kept Phase.Resetting pr l h _ v
-    kept Phase.Resetting pr l h (reply bs) v = stay_kept Phase.Resetting pr l h _ v
-    kept Phase.Resetting pr l h waited v = stay_kept Phase.Resetting pr l h _ v
     kept Phase.Resetting pr l h was_reset v = record { setup = refl; holds = g.reset pr l h v }
-    kept Phase.Resetting pr l h failed v = refuse_kept pr l h _ tt (g.cut_resetting pr l h v)
     kept (Phase.Finished e) pr l h a v = record { setup = refl; holds = v }
     kept (Phase.Refused e) pr l h a v = record { setup = refl; holds = v }
+    kept p pr l h failed v = refuse_kept pr l h _ tt (cut p pr l h v)
+    kept p pr l h a v = stay_kept p pr l h _ v
 
   -- a world in which the claim of its phase holds
   pub record Good (x : World) : Type 0 where
@@ -272,14 +239,8 @@ module _ (w : Work) (su : Setup) (c : Claims) where
     where
       by : (p : Phase) → ClaimAt p (after w x more).session.progress (after w x more).session.left (after w x more).past → Over p
           → (e : End) × (p ≡ Phase.Finished e) × c.finished e (after w x more).session.progress (after w x more).session.left (after w x more).past
-      by Phase.First v o = absurd o
-      by Phase.Clear v o = absurd o
-      by Phase.Second v o = absurd o
-      by (Phase.Sent d) v o = absurd o
-      by (Phase.Waiting z) v o = absurd o
-      by Phase.Resetting v o = absurd o
       by (Phase.Finished e) v o = (e, refl, v)
-      by (Phase.Refused e) v o = absurd o
+      by p v o = absurd o
 
   -- the two ends, where the same is claimed of both
   pub either_end : (pr : Progress) (l : ℕ) (h : List Event) (e : End) → c.finished End.Stays pr l h → c.resetting pr l (resets ∷ h) → EndAt (end_phase e) pr l h

@@ -1,21 +1,12 @@
 -- What a download still wants, as a list: each wish is its head, and at the start it is the plan. Assumes nothing.
-use Prim.Native.Nat.{ℕ, zero, suc, ◌+◌, ◌-◌, ◌*◌, ◌%◌, ◌<◌, ◌≤◌, min}
-use native.Mathlib.Numerals.{add-one}
-use native.Mathlib.Omega.{arith}
-use mathlib.Core.Path.{◌≡◌, refl, ap, sym, ◌∙◌}
-use mathlib.Core.Bool.{Bool, true, false}
-use mathlib.Core.List.{List, [], ◌∷◌, ◌++◌, append_assoc}
-use lib.ListN.{length, drop, get_or}
-use lib.Seq.{drop-cons}
-use lib.Dec.{ltb}
-use borrow.Author.Tests.{ltb-true, ltb-false}
-use Rattle.ground.proofs.Tests.{picked}
+use Rattle.std.proofs.Common.{ℕ, zero, suc, ◌+◌, ◌-◌, ◌*◌, ◌%◌, ◌<◌, ◌≤◌, min, add-one, arith, ◌≡◌, refl, ap, sym, ◌∙◌, Bool, true, false, List, [], ◌∷◌, ◌++◌, append_assoc, length, drop, get_or, drop-cons, Result, Ok, Err}
 use Rattle.papers.specs.Plan.{several, block_number}
-use Rattle.work.specs.Work.{whole_of, limit, end_of, block_count, number_at, block_length, staged, entered}
+use Rattle.work.specs.Work.{whole_of, end_of, block_count, number_at, block_length, staged, entered}
 use Rattle.work.proofs.Fills.{block_count_zero, block_count_more, block_count_pos, block_count_next, block_count_fill}
-use Rattle.download.specs.Download.{covering, passed, erase_next, write_next, next_at, next_of, took_of}
+use Rattle.download.specs.Download.{covering, passed, next_at, next_of, took_of}
 use Rattle.plan.proofs.Pages.{covering_zero, covering_more}
-use Rattle.promises.specs.Words.{pick, Command, Setup, Progress, Stage, Todo, Work, download, fresh}
+use Rattle.promises.specs.Words.{pick, Command, Setup, Progress, Stage, Todo, Work, download, fresh, Error}
+use Rattle.promises.proofs.Wishes.{erase_picked, write_picked}
 
 -- an erase for each page, from a position on
 unfoldable pub erases : ℕ → List ℕ → List Command
@@ -94,31 +85,17 @@ erase_left_done ps su pr h =
     ∙ ap (λ (x : ℕ). erases pr.erased (covering x (drop pr.page ps)) ++ (Command.SetAddress su.address ∷ write_left su pr)) z
 
 -- a wish is the head of what is still wanted
-abbrev pub Heads : Work → (Progress → List Command) → Setup → List Command → Todo → Type 0
-Heads w left su r (Todo.Send c then) = c ∷ left (w.took su then c (whole_of c)) ≡ r
-Heads w left su r (Todo.End e) = [] ≡ r
-Heads w left su r (Todo.Refuse e) = Unit
+abbrev pub Heads : Work → (Progress → List Command) → Setup → List Command → Result Todo Error → Type 0
+Heads w left su r (Ok (Todo.Send c then)) = c ∷ left (w.took su then c (whole_of c)) ≡ r
+Heads w left su r (Ok (Todo.End e)) = [] ≡ r
+Heads w left su r (Err e) = Unit
 
 heads_at : (st : Stage) (ps : List ℕ) (su : Setup) (pr : Progress) → 0 < su.size → Heads (download ps) (left ps su) su (left_at st ps su pr) (next_at st ps su pr)
-unfolding took_of erase_next write_next
+unfolding took_of
 heads_at Stage.Erasing ps su pr h =
-    picked P (ltb pr.erased (end_of su)) _ _
-    (λ e. picked P (ltb pr.page (length ps)) _ _
-    (λ f. picked P (ltb (pr.erased + get_or ps pr.page 0) limit) _ _
-    (λ g. erase_left_more ps su pr (ltb-true _ _ e) (ltb-true _ _ f))
-    (λ g. tt))
-    (λ f. tt))
-    (λ e. erase_left_done ps su pr (ltb-false _ _ e))
-  where
-    P : Todo → Type 0
-    P t = Heads (download ps) (left ps su) su (erase_left ps su pr) t
+    erase_picked (λ (t : Result Todo Error). Heads (download ps) (left ps su) su (erase_left ps su pr) t) ps su pr (erase_left_more ps su pr) (λ e f g. tt) (λ e f. tt) (erase_left_done ps su pr)
 heads_at Stage.Writing ps su pr h =
-    picked P (ltb pr.accepted su.length) _ _
-    (λ e. write_left_more su pr h (ltb-true _ _ e))
-    (λ e. write_left_done su pr h (ltb-false _ _ e))
-  where
-    P : Todo → Type 0
-    P t = Heads (download ps) (left ps su) su (write_left su pr) t
+    write_picked (λ (t : Todo). Heads (download ps) (left ps su) su (write_left su pr) (Ok t)) su pr (write_left_more su pr h) (write_left_done su pr h)
 heads_at Stage.Ending ps su pr h = refl
 
 pub heads : (ps : List ℕ) (su : Setup) (pr : Progress) → 0 < su.size → Heads (download ps) (left ps su) su (left ps su pr) (next_of ps su pr)

@@ -1,10 +1,6 @@
 -- All that happens in a run that finishes. Assumes nothing.
-use Prim.Native.Nat.{ℕ, suc, ◌<◌}
-use mathlib.Core.Path.{◌≡◌, refl, ap, sym, subst, ◌∙◌}
-use mathlib.Core.Bool.{Bool, true, false}
-use mathlib.Core.List.{List, [], ◌∷◌, ◌++◌, append_assoc, append-nil, map, map-append}
-use lib.Dec.{eqb}
-use lib.ListN.{length}
+use Rattle.std.proofs.Common.{ℕ, suc, ◌<◌, ◌≡◌, refl, ap, sym, subst, ◌∙◌, Bool, true, false, List, [], ◌∷◌, ◌++◌, append_assoc, append-nil, map, eqb, length, Result, Ok, Err}
+use mathlib.Core.List.{map-append}
 use Rattle.ground.proofs.Tests.{picked}
 use Rattle.get_status.specs.Names.{state_byte}
 use Rattle.get_status.specs.declared.State.{State}
@@ -12,14 +8,14 @@ use Rattle.work.specs.Work.{wait_after}
 use Rattle.download.specs.Download.{end_for, next_of, took_of}
 use Rattle.machine.specs.Machine.{end_phase, asks_at}
 use Rattle.plan.specs.Sent.{on_wire, Begins}
-use Rattle.promises.specs.Words.{pick, DfuProtocol, Command, Request, Setup, Progress, Todo, End, download, Phase, Session, Answer, mk, DfuSansIo, setup_of, fresh}
+use Rattle.promises.specs.Words.{pick, DfuProtocol, Command, Request, Setup, Progress, Todo, End, download, Phase, Session, Answer, mk, DfuSansIo, setup_of, fresh, Error}
 use Rattle.promises.specs.Run.{Event, sends, hears, waits, resets, sent_by, opened, after, in_time, Over}
 use Rattle.promises.specs.Whole.{opening, busy_after, target_after, looks, Round, round_of, rounds, request_of, closing, Listed}
 use Rattle.promises.specs.Finish.{EndsAs}
 use Rattle.promises.proofs.Walk.{Claims, Holds, EndAt, Wished, WaitingAt, Good, run_over}
 use Rattle.promises.proofs.Wanted.{left, Heads, heads, wanted, fresh_wanted}
 use Rattle.promises.proofs.Onwire.{wanted_plan}
-use Rattle.promises.proofs.Started.{begun}
+use Rattle.promises.proofs.Started.{begun_holds}
 use Rattle.promises.proofs.Ends.{download_ends}
 
 looks_more : (b : ℕ) (n : List ℕ) (ms : ℕ) → looks b n ++ (sends Request.GetStatus ∷ hears b ms ∷ waits ms ∷ []) ≡ looks b (n ++ (ms ∷ []))
@@ -125,29 +121,27 @@ module _ (ps : List ℕ) (su : Setup) (all : List Command) where
       → Sofar su.tolerant all (sends (Request.Command c) ∷ h) (sends (Request.Command c) ∷ []) (c ∷ left ps su pr)
       → WaitingAt (download ps) su (listing ps su all) (wait_after su c k) pr l (sent_by (asks_at (Phase.Waiting (wait_after su c k))) ++ (sends (Request.Command c) ∷ h))
   unfolding looks
-  begins_round (Command.Erase a) k h pr l v = record { c = Command.Erase a; n = []; busy = refl; target = refl; sofar = append_more su.tolerant all _ _ (waits 0) _ v }
-  begins_round (Command.SetAddress a) k h pr l v = record { c = Command.SetAddress a; n = []; busy = refl; target = refl; sofar = append_more su.tolerant all _ _ (waits 0) _ v }
-  begins_round (Command.Block n f m) k h pr l v = record { c = Command.Block n f m; n = []; busy = refl; target = refl; sofar = append_more su.tolerant all _ _ (waits 0) _ v }
   begins_round (Command.Empty n) k h pr l v = record { c = Command.Empty n; n = []; busy = refl; target = by su.tolerant; sofar = append_more su.tolerant all _ _ (waits 0) _ v }
     where
       by : (b : Bool) → state_byte (pick b State.DfuIdle State.DfuManifest) ≡ pick b 2 7
       by true = refl
       by false = refl
+  begins_round c k h pr l v = record { c = c; n = []; busy = refl; target = refl; sofar = append_more su.tolerant all _ _ (waits 0) _ v }
 
   -- the end, with the reset or without
   ended : (x : End) (pr : Progress) (l : ℕ) (h : List Event) → x ≡ end_for su → Sofar su.tolerant all h [] [] → EndAt (download ps) su (listing ps su all) (end_phase x) pr l h
   ended End.Stays pr l h e v = (v, e)
   ended End.Reset pr l h e v = (append_more su.tolerant all h [] resets [] v, e)
 
-  wished : (pr : Progress) (l : ℕ) (h : List Event) (t : Todo) → Heads (download ps) (left ps su) su (left ps su pr) t → EndsAs (end_for su) t
+  wished : (pr : Progress) (l : ℕ) (h : List Event) (t : Result Todo Error) → Heads (download ps) (left ps su) su (left ps su pr) t → EndsAs (end_for su) t
       → Sofar su.tolerant all h [] (left ps su pr) → Wished (download ps) su (listing ps su all) pr l h t
-  wished pr l h (Todo.Send c then) e x v =
+  wished pr l h (Ok (Todo.Send c then)) e x v =
       let on : Sofar su.tolerant all (sends (Request.Command c) ∷ h) (sends (Request.Command c) ∷ []) (c ∷ left ps su (took_of su then c)) =
       subst (λ (x : List Command). Sofar su.tolerant all (sends (Request.Command c) ∷ h) (sends (Request.Command c) ∷ []) x) (sym e)
       (append_more su.tolerant all h [] (sends (Request.Command c)) (left ps su pr) v) in
       λ m z. (tt, λ k f. begins_round c k h (took_of su then c) m on)
-  wished pr l h (Todo.End x) e q v = ended x pr l h q (subst (λ (y : List Command). Sofar su.tolerant all h [] y) (sym e) v)
-  wished pr l h (Todo.Refuse x) e q v = tt
+  wished pr l h (Ok (Todo.End x)) e q v = ended x pr l h q (subst (λ (y : List Command). Sofar su.tolerant all h [] y) (sym e) v)
+  wished pr l h (Err x) e q v = tt
 
   -- one more busy reply and its wait, or the target
   busy_more : (b t : State) (h : List Event) (ms : ℕ) (rest : List Command) → On su.tolerant all b t h (sends Request.GetStatus ∷ []) rest
@@ -253,13 +247,12 @@ module _ (io : DfuSansIo) (p : DfuProtocol) (fw ps : List ℕ) (budget : ℕ) (s
   pub finished_lists : 0 < length fw → 0 < io.descriptor.transfer_size → Begins io p fw ps budget s
       → Over (after (download ps) (opened s) more).session.phase → Listed io p fw ps (after (download ps) (opened s) more).past
   finished_lists h k b =
-      let (l, z, e) = begun io p fw ps budget s h k b in
-      subst
+      begun_holds
       (λ (x : Session).
       Over (after (download ps) (opened x) more).session.phase
       → Listed io p fw ps (after (download ps) (opened x) more).past)
-      (sym e)
-      (λ o.
+      io p fw ps budget s h k b
+      (λ l z o.
       let (x, p, (v, q)) = run_over (download ps) su (listing ps su (wanted su ps)) (holds ps su (wanted su ps) k) (opened (mk su (fresh su) l Phase.First)) more (fresh_good ps su l k) o in
       let r : map request_of v.rs ≡ wanted su ps = sym (append-nil (map request_of v.rs)) ∙ v.list in
       record {

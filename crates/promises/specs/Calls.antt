@@ -1,9 +1,8 @@
 -- A run over the calls themselves: at each one firmware, pages and command bytes are lent anew, and an answer is told.
-use Rattle.std.specs.Prelude.{ℕ, ◌≤◌, ◌≡◌, Bool, true, List, [], ◌∷◌, ◌++◌, length}
+use Rattle.std.specs.Prelude.{ℕ, ◌≤◌, ◌≡◌, Bool, true, List, [], ◌∷◌, ◌++◌, length, Result, Ok, Err}
 use Rattle.machine.specs.Machine.{asks_at}
 use Rattle.session.specs.Calls.{as_at_start, guard_of, Outcome, out, call_of}
-use Rattle.session.specs.declared.Guard.{Guard}
-use Rattle.promises.specs.Words.{pick, Setup, Phase, Session, Answer}
+use Rattle.promises.specs.Words.{pick, Setup, Phase, Ask, Session, Answer}
 use Rattle.promises.specs.Run.{Event, sent_by, heard_at, World}
 
 pub record Call : Type 0 where
@@ -17,9 +16,9 @@ abbrev pub outcome : Session → Call → Outcome
 outcome s c = call_of c.firmware c.pages c.command s c.answer
 
 -- a call that is refused for what it lends hears nothing
-abbrev pub heard_through : Guard → Phase → Answer → List Event
-heard_through Guard.Open p a = heard_at p a
-heard_through (Guard.Shut ask) p a = []
+abbrev pub heard_through : Result Unit Ask → Phase → Answer → List Event
+heard_through (Ok opened) p a = heard_at p a
+heard_through (Err ask) p a = []
 
 abbrev pub call : World → Call → World
 call x c = record {

@@ -7,7 +7,8 @@ use Rattle.get_status.specs.declared.GetStatusMessage.{GetStatusMessage}
 use Rattle.memory_layout.specs.Layout.{max_pages}
 use Rattle.work.specs.Work.{limit, block_count}
 use Rattle.download.specs.Download.{covering}
-use Rattle.start.specs.Start.{dfuseb, target_of, max_blocks}
+use Rattle.protocol.specs.Interface.{dfuseb}
+use Rattle.start.specs.Start.{target_of, max_blocks}
 use Rattle.promises.specs.Words.{pick, DfuProtocol, Wait, End, Work, Phase, Ask, Session, Step, Answer, count, reply, waited, was_reset, failed, told, DfuSansIo}
 use Rattle.promises.specs.Run.{Taken}
 

@@ -1,6 +1,6 @@
 -- What it is for a run to finish as it ought to.
-use Rattle.std.specs.Prelude.{ℕ, ◌≤◌, ◌≡◌, List, length}
-use Rattle.promises.specs.Words.{DfuProtocol, Todo, End, download, Phase, Session, Step, Answer, told, DfuSansIo}
+use Rattle.std.specs.Prelude.{ℕ, ◌≤◌, ◌≡◌, List, length, Result, Ok, Err}
+use Rattle.promises.specs.Words.{DfuProtocol, Todo, End, Error, download, Phase, Session, Step, Answer, told, DfuSansIo}
 use Rattle.promises.specs.Run.{opened, after_by, transfers, cleared, Unrefused}
 use Rattle.promises.specs.Fair.{heeded_by, AllYesBy, requests_of, bound, answers_for, end_of_run}
 
@@ -19,7 +19,7 @@ abbrev pub Finishes : ℕ → DfuSansIo → DfuProtocol → List ℕ → List �
 Finishes k io p fw ps s more = FinishesBy (told (download ps)) k io p fw ps s more
 
 -- a wish that ends, if it does, in one way
-abbrev pub EndsAs : End → Todo → Type 0
-EndsAs x (Todo.Send c then) = Unit
-EndsAs x (Todo.End e) = e ≡ x
-EndsAs x (Todo.Refuse e) = Unit
+abbrev pub EndsAs : End → Result Todo Error → Type 0
+EndsAs x (Ok (Todo.Send c then)) = Unit
+EndsAs x (Ok (Todo.End e)) = e ≡ x
+EndsAs x (Err e) = Unit

@@ -1,12 +1,11 @@
 -- The promises as predicates on a machine, and machines that each lack one.
-use Rattle.std.specs.Prelude.{ℕ, ◌+◌, ◌*◌, ◌<◌, ◌≤◌, ◌≡◌, List, ◌++◌, map, length, nat_lt}
+use Rattle.std.specs.Prelude.{ℕ, ◌+◌, ◌*◌, ◌<◌, ◌≤◌, ◌≡◌, List, ◌++◌, map, length, nat_lt, Result, Ok, Err}
 use Rattle.papers.specs.Plan.{Dnload}
 use Rattle.work.specs.Work.{whole_of}
 use Rattle.download.specs.Download.{erase_next, next_of, took_of}
 use Rattle.machine.specs.Machine.{proceed}
 use Rattle.session.specs.Told.{over, go, stay}
 use Rattle.start.specs.Start.{begin_of, said_started}
-use Rattle.start.specs.declared.Started.{Started}
 use Rattle.start.specs.declared.StartError.{StartError}
 use Rattle.plan.specs.Sent.{on_wire, plan_of}
 use Rattle.promises.specs.Words.{pick, DfuProtocol, Command, Request, Setup, Progress, Stage, Todo, End, Error, download, Phase, Ask, Session, Step, Answer, count, reply, waited, was_reset, failed, mk, told, DfuSansIo}
@@ -18,14 +17,14 @@ use Rattle.promises.specs.Believed.{WholeAt, AllAtBy}
 
 -- how it starts, from start's own numbers, and how it is told an answer, with the pages that are lent
 pub record Machine : Type 0 where
-  pub start : DfuSansIo → DfuProtocol → ℕ → ℕ → ℕ → Started
+  pub start : DfuSansIo → DfuProtocol → ℕ → ℕ → ℕ → Result Session StartError
   pub told : List ℕ → Session → Answer → Step
 
 abbrev pub ours : Machine
 ours = record { start = begin_of; told = λ ps s a. told (download ps) s a }
 
 abbrev pub Began : Machine → DfuSansIo → DfuProtocol → List ℕ → List ℕ → ℕ → Session → Type 0
-Began m io p fw ps budget s = m.start io p (length fw) (length ps) budget ≡ Started.Session s
+Began m io p fw ps budget s = m.start io p (length fw) (length ps) budget ≡ Ok s
 
 -- 2: a finished run has sent the plan, and every run a leading part of it
 abbrev pub SendsThePlan : Machine → Type 0
@@ -88,7 +87,7 @@ WholeBlocks m =
 
 -- always refusing
 abbrev pub refusing : Machine
-refusing = record { start = λ io p n pages budget. Started.Refused StartError.NoSpaceLeft; told = ours.told }
+refusing = record { start = λ io p n pages budget. Err StartError.NoSpaceLeft; told = ours.told }
 
 -- one fixed answer
 abbrev pub fixed : Machine
@@ -139,10 +138,10 @@ abbrev pub restless : Machine
 restless = record { start = begin_of; told = λ ps s a. awake ps (told (download ps) s a).next (told (download ps) s a).says }
 
 -- never resetting: every device stays
-abbrev pub staying : Todo → Todo
-staying (Todo.Send c then) = Todo.Send c then
-staying (Todo.End e) = Todo.End End.Stays
-staying (Todo.Refuse e) = Todo.Refuse e
+abbrev pub staying : Result Todo Error → Result Todo Error
+staying (Ok (Todo.Send c then)) = Ok (Todo.Send c then)
+staying (Ok (Todo.End e)) = Ok (Todo.End End.Stays)
+staying (Err e) = Err e
 
 abbrev pub unreset : Machine
 unreset = record { start = begin_of; told = λ ps s a. told (record { next = λ su pr. staying (next_of ps su pr); took = λ su pr c n. took_of su pr c }) s a }
@@ -159,13 +158,13 @@ abbrev pub inventive : Machine
 inventive = record { start = begin_of; told = λ ps s a. spent_all (told (download ps) s a) }
 
 -- the first number 3: every block's is one up
-abbrev pub one_up : Todo → Todo
-one_up (Todo.Send (Command.Erase a) then) = Todo.Send (Command.Erase a) then
-one_up (Todo.Send (Command.SetAddress a) then) = Todo.Send (Command.SetAddress a) then
-one_up (Todo.Send (Command.Block n f m) then) = Todo.Send (Command.Block (n + 1) f m) then
-one_up (Todo.Send (Command.Empty n) then) = Todo.Send (Command.Empty (n + 1)) then
-one_up (Todo.End e) = Todo.End e
-one_up (Todo.Refuse e) = Todo.Refuse e
+abbrev pub one_up : Result Todo Error → Result Todo Error
+one_up (Ok (Todo.Send (Command.Erase a) then)) = Ok (Todo.Send (Command.Erase a) then)
+one_up (Ok (Todo.Send (Command.SetAddress a) then)) = Ok (Todo.Send (Command.SetAddress a) then)
+one_up (Ok (Todo.Send (Command.Block n f m) then)) = Ok (Todo.Send (Command.Block (n + 1) f m) then)
+one_up (Ok (Todo.Send (Command.Empty n) then)) = Ok (Todo.Send (Command.Empty (n + 1)) then)
+one_up (Ok (Todo.End e)) = Ok (Todo.End e)
+one_up (Err e) = Err e
 
 abbrev pub numbered_from_three : Machine
 numbered_from_three = record { start = begin_of; told = λ ps s a. told (record { next = λ su pr. one_up (next_of ps su pr); took = λ su pr c n. took_of su pr c }) s a }
@@ -182,7 +181,7 @@ longer su = record {
   detach = su.detach;
 }
 
-abbrev pub one_page_more_at : Stage → List ℕ → Setup → Progress → Todo
+abbrev pub one_page_more_at : Stage → List ℕ → Setup → Progress → Result Todo Error
 one_page_more_at Stage.Erasing ps su pr = erase_next ps (longer su) pr
 one_page_more_at Stage.Writing ps su pr = next_of ps su pr
 one_page_more_at Stage.Ending ps su pr = next_of ps su pr
@@ -202,9 +201,9 @@ marked pr = record {
   accepted = pr.accepted;
 }
 
-abbrev pub twice_at : Stage → List ℕ → Setup → Progress → Todo
+abbrev pub twice_at : Stage → List ℕ → Setup → Progress → Result Todo Error
 twice_at Stage.Erasing ps su pr = next_of ps su pr
-twice_at Stage.Writing ps su pr = pick (nat_lt pr.page 1000) (Todo.Send (Command.SetAddress su.address) (marked pr)) (next_of ps su pr)
+twice_at Stage.Writing ps su pr = pick (nat_lt pr.page 1000) (Ok (Todo.Send (Command.SetAddress su.address) (marked pr))) (next_of ps su pr)
 twice_at Stage.Ending ps su pr = next_of ps su pr
 
 abbrev pub address_twice : Machine

@@ -1,8 +1,8 @@
 -- Each refusal with its smallest case of docs/COMPARISON.md: what the definitions say of the case, beside the document's number and values.
-use Rattle.std.specs.Prelude.{ℕ, false, List, [], ◌∷◌, replicate, length as count}
+use Rattle.std.specs.Prelude.{ℕ, false, List, [], ◌∷◌, replicate, length as count, Result, Ok, Err}
 use Prim.Native.String.{String}
 use Rattle.ground.specs.Said.{Said, says}
-use Rattle.ground.specs.Text.{codes}
+use Rattle.std.specs.Prelude.{codes}
 use Rattle.functional_descriptor.specs.Descriptor as descriptor
 use Rattle.get_status.specs.Reply as replies
 use Rattle.memory_layout.specs.Layout as layout
@@ -10,7 +10,7 @@ use Rattle.protocol.specs.Interface as protocol
 use Rattle.machine.specs.Machine.{asks_at, said_ask}
 use Rattle.session.specs.Told.{count as counts}
 use Rattle.session.specs.Calls.{call_of}
-use Rattle.start.specs.declared.Started.{Started}
+use Rattle.start.specs.declared.StartError.{StartError}
 use Rattle.start.specs.Start.{begin_of, said_start, said_started}
 use Rattle.suffix.specs.Suffix as suffix
 use Rattle.promises.specs.Words.{DfuProtocol, download, Session, Answer, reply, waited, failed, told}
@@ -41,18 +41,18 @@ last_said ps s [] = said_ask (asks_at s.phase)
 last_said ps s (a ∷ []) = said_ask (told (download ps) s a).says
 last_said ps s (a ∷ b ∷ more) = last_said ps (told (download ps) s a).next (b ∷ more)
 
-abbrev pub started_said : List ℕ → List Answer → Started → Said
-started_said ps more (Started.Session s) = last_said ps s more
-started_said ps more (Started.Refused e) = said_start e
+abbrev pub started_said : List ℕ → List Answer → Result Session StartError → Said
+started_said ps more (Ok s) = last_said ps s more
+started_said ps more (Err e) = said_start e
 
 -- a session with transfer size 8, of a device that neither stays nor detaches: its length, budget and pages
 abbrev pub session_said : DfuProtocol → ℕ → ℕ → List ℕ → List Answer → Said
 session_said p len budget ps more = started_said ps more (begin_of (device_of false false 8) p len (count ps) budget)
 
 -- a call that lends four command bytes
-abbrev pub short_lent : Started → Said
-short_lent (Started.Session s) = said_ask (call_of (7 ∷ []) [] (0 ∷ 0 ∷ 0 ∷ 0 ∷ []) s (shows 2)).step.says
-short_lent (Started.Refused e) = said_start e
+abbrev pub short_lent : Result Session StartError → Said
+short_lent (Ok s) = said_ask (call_of (7 ∷ []) [] (0 ∷ 0 ∷ 0 ∷ 0 ∷ []) s (shows 2)).step.says
+short_lent (Err e) = said_start e
 
 -- a reply with a status; a write that is taken and waited for
 abbrev pub showing : ℕ → ℕ → Answer

@@ -1,7 +1,8 @@
 -- A run: a session and its past, told one answer after the other.
-use Rattle.std.specs.Prelude.{ℕ, suc, ◌≡◌, List, [], ◌∷◌, ◌++◌}
+use Rattle.std.specs.Prelude.{ℕ, suc, ◌≡◌, List, [], ◌∷◌, ◌++◌, Result, Ok, Err}
 use Rattle.get_status.specs.Names.{state_byte}
-use Rattle.get_status.specs.declared.Reply.{Reply}
+use Rattle.get_status.specs.declared.GetStatusMessage.{GetStatusMessage}
+use Rattle.get_status.specs.declared.Error.{Error as ReplyError}
 use Rattle.machine.specs.Machine.{first_reply, later_reply, asks_at}
 use Rattle.promises.specs.Words.{Command, Request, Wait, Work, Phase, Ask, Session, Step, Answer, count, reply, waited, was_reset, failed, told}
 
@@ -21,10 +22,9 @@ sent_by (Ask.Finished e) = []
 sent_by (Ask.Refused e) = []
 
 -- what a reply shows, if it is read
-abbrev pub shown_by : Reply → List Event
-shown_by (Reply.ResponseTooShort got) = []
-shown_by (Reply.StatusError status) = []
-shown_by (Reply.Read m) = hears (state_byte m.state) m.poll_timeout ∷ []
+abbrev pub shown_by : Result GetStatusMessage ReplyError → List Event
+shown_by (Err e) = []
+shown_by (Ok m) = hears (state_byte m.state) m.poll_timeout ∷ []
 
 abbrev pub shown_first : Answer → List Event
 shown_first (count n) = []

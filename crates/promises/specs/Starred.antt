@@ -1,8 +1,8 @@
 -- Document 01's starred cases, the failed write of W4 and published interface strings: a table, run on the definitions.
-use Rattle.std.specs.Prelude.{ℕ, List, [], ◌∷◌, Bool, true, false, replicate, length as count}
+use Rattle.std.specs.Prelude.{ℕ, List, [], ◌∷◌, Bool, true, false, replicate, length as count, Result, Ok, Err}
 use Prim.Native.String.{String}
 use Rattle.ground.specs.Said.{Said, says}
-use Rattle.ground.specs.Text.{codes}
+use Rattle.std.specs.Prelude.{codes}
 use Rattle.papers.specs.Plan.{sum}
 use Rattle.memory_layout.specs.Layout as layout
 use Rattle.protocol.specs.Interface as protocol
@@ -10,7 +10,7 @@ use Rattle.machine.specs.Machine.{asks_at, said_ask}
 use Rattle.session.specs.Told.{count as counts}
 use Rattle.wire.specs.Wire.{wire_of, filled_for, request_data}
 use Rattle.wire.specs.declared.Control.{Control}
-use Rattle.start.specs.declared.Started.{Started}
+use Rattle.start.specs.declared.StartError.{StartError}
 use Rattle.start.specs.Start.{begin_of, said_start}
 use Rattle.promises.specs.Words.{DfuProtocol, Command, Request, Stage, End, Error, download, Phase, Session, Answer, reply, waited, was_reset, mk, DfuSansIo}
 use Rattle.promises.specs.Samples.{device_of, shows}
@@ -86,18 +86,18 @@ pub record Setting : Type 0 where
 abbrev pub device : Setting → DfuSansIo
 device x = device_of x.tolerant x.detach x.size
 
-abbrev pub begins : Setting → Started
+abbrev pub begins : Setting → Result Session StartError
 begins x = begin_of (device x) x.protocol x.length (count x.pages) x.budget
 
 -- the run of a started session over told answers: all that it asks, in order, and what it says last, or its last session
-abbrev pub run_of : List ℕ → List Answer → Started → Outcome
-run_of ps more (Started.Session s) =
+abbrev pub run_of : List ℕ → List Answer → Result Session StartError → Outcome
+run_of ps more (Ok s) =
     runs (done_in (in_time (after (download ps) (opened s) more).past)) (said_ask (asks_at (after (download ps) (opened s) more).session.phase))
-run_of ps more (Started.Refused e) = unbegun (said_start e)
+run_of ps more (Err e) = unbegun (said_start e)
 
-abbrev pub end_of : List ℕ → List Answer → Started → Outcome
-end_of ps more (Started.Session s) = ends (done_in (in_time (after (download ps) (opened s) more).past)) (after (download ps) (opened s) more).session
-end_of ps more (Started.Refused e) = unbegun (said_start e)
+abbrev pub end_of : List ℕ → List Answer → Result Session StartError → Outcome
+end_of ps more (Ok s) = ends (done_in (in_time (after (download ps) (opened s) more).past)) (after (download ps) (opened s) more).session
+end_of ps more (Err e) = unbegun (said_start e)
 
 -- a write that is taken whole, waited for and answered with a state
 abbrev pub write : ℕ → ℕ → List Answer → List Answer

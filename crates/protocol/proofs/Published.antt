@@ -1,23 +1,17 @@
 -- The interface strings that ST's paper prints are read as it says: the address, and the pages in order. Assumes nothing.
-use Prim.Native.Nat.{ℕ, zero, suc, ◌+◌, ◌*◌, ◌/◌, ◌%◌, ◌^◌, ◌<◌, ◌≤◌}
-use mathlib.Core.Path.{◌≡◌, refl, sym, ap, ◌∙◌}
-use mathlib.Core.Logic.{⊎_elim}
-use mathlib.Core.List.{List, [], ◌∷◌, ◌++◌, append-nil, append_assoc}
-use mathlib.Core.Bool.{Bool, true, false}
-use native.Mathlib.Nat.{pow-zero, pow-suc, mul-le-mul_left, mod-lt, div-le_self, div-add-mod', div-lt_iff_lt-mul}
-use native.Mathlib.Omega.{arith}
-use lib.Dec.{ltb}
-use lib.ListN.{length, drop, length-append, length-replicate}
+use Rattle.std.proofs.Common.{◌≡◌, ℕ, zero, suc, ◌+◌, ◌*◌, ◌/◌, ◌%◌, ◌^◌, ◌<◌, ◌≤◌, Bool, true, false, ltb, List, [], ◌∷◌, ◌++◌, length, drop, Some, Ok, refl, sym, ap, ◌∙◌, append-nil, append_assoc, mul-le-mul_left, pow-suc, arith, length-append, le-ltb, ne_eqb}
+use native.Mathlib.Nat.{pow-zero, mod-lt, div-le_self, div-add-mod', div-lt_iff_lt-mul}
+use lib.ListN.{length-replicate}
 use lib.Seq.{append_snoc}
-use borrow.Author.Tests.{lt-ltb, le-ltb, le-leb, lt-leb, ne_eqb}
+use borrow.Author.Tests.{lt-leb}
+use Rattle.std.proofs.lemmas.Bool.Decides.{nat_tests}
 use Rattle.ground.specs.Bytes.{prefix}
 use Rattle.ground.proofs.Lists.{Without, without_both}
-use Rattle.ground.proofs.Tests.{lt_or_ge}
 use Rattle.numeral.specs.Number.{digit_of, read_on, number_of}
-use Rattle.numeral.proofs.Reading.{go_on, unsigned}
-use Rattle.memory_layout.specs.Layout.{max_pages, max_text, split, factor_of, piece_of}
+use Rattle.numeral.proofs.Reading.{unsigned}
+use Rattle.memory_layout.specs.Layout.{max_pages, max_text, split, factor_of, run_of, piece_of}
 use Rattle.memory_layout.proofs.Printed.{alone, first, piece, Announces, nothing, more, accepts}
-use Rattle.protocol.specs.Interface.{whole, cut, rsplit, address_of, done, dfuse_of, interface_of}
+use Rattle.protocol.specs.Interface.{whole, cut, rsplit, address_of, with_protocol, done, dfuse_of, interface_of}
 use Rattle.papers.specs.Um0424.{
   either,
   glyph,
@@ -37,21 +31,11 @@ use Rattle.papers.specs.Um0424.{
   all_pages,
   Printable,
 }
-use Rattle.numeral.specs.declared.Number.{Number}
-use Rattle.memory_layout.specs.declared.Piece.{Piece}
 use Rattle.protocol.specs.declared.DfuProtocol.{DfuProtocol}
-use Rattle.protocol.specs.declared.Interface.{Interface}
 
 -- a glyph is read as its digit, and is none of the bytes between numbers
-glyph_reads : (d : ℕ) → d < 16 → digit_of (glyph d) ≡ d
-glyph_reads d h =
-    ⊎_elim
-    (λ (l : d < 10). simp (lt-ltb d 10 l, le-ltb (48 + d) 48 (omega arith), le-leb (48 + d) 57 (omega arith)) (omega arith))
-    (λ (g : 10 ≤ d).
-    simp
-    (le-ltb d 10 g, le-ltb (55 + d) 48 (omega arith), lt-leb (55 + d) 57 (omega arith), le-ltb (55 + d) 65 (omega arith), le-leb (55 + d) 70 (omega arith))
-    (omega arith))
-    (lt_or_ge d 10)
+glyph_reads : (d : ℕ) → d < 16 → digit_of (glyph d) ≡ Some d
+glyph_reads d h = grind (arith, nat_tests)
 
 glyph_least : (t : Bool) (d : ℕ) → 48 ≤ either t (48 + d) (55 + d)
 glyph_least true d = omega arith
@@ -71,19 +55,23 @@ digits_without x b (suc w) n h =
     (λ (e : glyph (n % b) ≡ x). omega (arith, glyph_least (ltb (n % b) 10) (n % b)), tt)
 
 module _ (b : ℕ) (low : 0 < b) (high : b ≤ 16) where
+  digit_on : (c d v : ℕ) (rest : List ℕ) → digit_of c ≡ Some d → d < b → v * b + d ≤ 4294967295 → read_on b (c ∷ rest) v ≡ read_on b rest (v * b + d)
+  unfolding read_on
+  digit_on c d v rest g m h = simp (g, lt-leb b d m, le-ltb 4294967295 (v * b + d) h)
+
   digits_on : (w n : ℕ) (rest : List ℕ) → n < b ^ w → n < 4294967296 → read_on b (digits b w n ++ rest) 0 ≡ read_on b rest n
   unfolding digits
   digits_on zero n rest h k = ap (read_on b rest) (omega (arith, pow-zero b))
   digits_on (suc w) n rest h k =
       let q : n / b * b + n % b ≡ n = div-add-mod' n b in
       let m : n % b < b = mod-lt n low in
-      let g : digit_of (glyph (n % b)) ≡ n % b = glyph_reads (n % b) (omega arith) in
+      let g : digit_of (glyph (n % b)) ≡ Some (n % b) = glyph_reads (n % b) (omega arith) in
       rw append_snoc
       (digits_on w (n / b) (glyph (n % b) ∷ rest) ((div-lt_iff_lt-mul low).1 (rw pow-suc at h)) (omega (arith, div-le_self n b))
-      ∙ go_on b (glyph (n % b) ∷ rest) 0 (n / b) (n % b) (omega arith) (sym g) m (omega arith)
+      ∙ digit_on (glyph (n % b)) (n % b) (n / b) rest g m (omega arith)
       ∙ ap (read_on b rest) q)
 
-  digits_read : (w n : ℕ) → 0 < w → n < b ^ w → n < 4294967296 → number_of b (digits b w n) ≡ Number.Value n
+  digits_read : (w n : ℕ) → 0 < w → n < b ^ w → n < 4294967296 → number_of b (digits b w n) ≡ Some n
   unfolding read_on
   digits_read w n p h k =
       unsigned b (digits b w n) (omega (arith, digits_length b w n)) (digits_without 43 b w n (omega arith))
@@ -101,7 +89,7 @@ cut_last [] t f = simp (slashless t f)
 cut_last (c ∷ s) t f = simp (cut_last s t f)
 
 -- what a unit multiplies by
-factor : (u : Multiplier) → factor_of (letter u) ≡ times u
+factor : (u : Multiplier) → factor_of (letter u) ≡ Some (times u)
 factor bytes = refl
 factor kilo = refl
 factor mega = refl
@@ -129,7 +117,7 @@ module _ (r : Region) (good : Good r) where
       let sized = without_both x (decimal r.size) ends (digits_without x 10 _ _ h) (unit, (omega arith, tt)) in
       without_both x (decimal r.count) (42 ∷ (decimal r.size ++ ends)) (digits_without x 10 _ _ h) (n, sized)
 
-  region_reads : length (pages r) < 4294967296 → (at : ℕ) → piece_of (region r) at ≡ Piece.Run r.count.value (r.size.value * times r.unit)
+  region_reads : length (pages r) < 4294967296 → (at : ℕ) → piece_of (region r) at ≡ Ok (run_of r.count.value (r.size.value * times r.unit))
   region_reads h at =
       let count = good.printable.0 in
       let size = good.printable.1 in
@@ -138,7 +126,7 @@ module _ (r : Region) (good : Good r) where
       piece (decimal r.count) (decimal r.size) _ _ _ _ (times r.unit) at (digits_without 42 10 _ _ (omega arith))
       (digits_read 10 (omega arith) (omega arith) _ _ count.0 count.1 (omega arith))
       (digits_read 10 (omega arith) (omega arith) _ _ size.0 size.1 (omega (arith, mul-le-mul_left r.size.value least)))
-      (factor r.unit) least good.small
+      (factor r.unit) good.small
 
 -- all regions: no slash, and they are read as all pages
 regions_without : (r : Region) (qs : List Region) → EachGood r qs → Without 47 (regions r qs)
@@ -162,7 +150,7 @@ pub reads_st_strings : (name : List ℕ) (address : ℕ) (r : Region) (qs : List
     → address < 4294967296 → EachGood r qs
     → length (string name address r qs) ≤ max_text → length (all_pages r qs) ≤ max_pages → length (all_pages r qs) ≤ length store
     → interface_of (string name address r qs) (record { 0 = 1; 1 = 0x1a }) store
-    ≡ done (Interface.Read (DfuProtocol.Dfuse address) (length (all_pages r qs))) (all_pages r qs ++ drop (length (all_pages r qs)) store)
+    ≡ done (Ok (with_protocol (DfuProtocol.Dfuse address) (length (all_pages r qs)))) (all_pages r qs ++ drop (length (all_pages r qs)) store)
 unfolding interface_of dfuse_of address_of prefix
 reads_st_strings name address r qs store a g t p s =
     let text = string name address r qs in

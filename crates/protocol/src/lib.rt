@@ -1,163 +1,140 @@
 // The protocol that a version and an interface string announce, and the detach request: DfuProtocol and detach of lib.rs.
 #![tactic(auto)]
 
-ghost use Rattle.std.specs.Prelude.{◌≡◌};
-ghost use Rattle.protocol.specs.Interface.{place_of, rsplit, address_of, done, dfuse_of, interface_of, refused_by, detach_request, said_protocol, said_refusal, said_of};
-ghost use Rattle.ground.specs.Said.{report_of};
+ghost use Rattle.std.specs.Prelude.{◌≡◌, ◌<◌, length, IfSome};
+ghost use Rattle.std.specs.Option.{option_map_or};
+ghost use Rattle.protocol.specs.Interface.{dfuseb, whole, cut, rsplit, place_of, address_of, done, dfuse_of, interface_of, detach_request, said_interface, said_refusal};
+ghost use Rattle.protocol.specs.declared.Error.TheVariants.{MemoryLayout};
 
-use ground::{Report, Version};
+use ground::{Answer, Report, Version};
 use memory_layout::{MAX_TEXT, MemoryLayout};
-use numeral::Number;
+use std::fmt;
 
 // The protocol in use. DfuSe's pages stand in the store that was lent for them.
-#[derive(Clone, Copy)]
+#[derive(Clone, Copy, Debug, PartialEq, Eq)]
 pub enum DfuProtocol {
     Dfu,
     Dfuse { address: u32 },
 }
 
 // Why a version or an interface string is refused.
-#[derive(Clone, Copy)]
+#[derive(Clone, Copy, Debug, PartialEq, Eq)]
 pub enum Error {
-    // 7
+    // Refusal 7
     UnknownProtocol,
-    // 20
+    // Refusal 20
     TextTooLong,
-    // 8: fewer than two slashes
+    // Refusal 8: fewer than two slashes
     InvalidInterfaceString,
-    // 9 to 12, 21, 22
+    // Refusals 9 to 12, 21, 22
     MemoryLayout(memory_layout::Error),
-    // 13
+    // Refusal 13
     InvalidAddress,
 }
 
-// The protocol, with how many pages the store holds for it, or why there is none.
-#[derive(Clone, Copy)]
-pub enum Interface {
-    Read { protocol: DfuProtocol, pages: usize },
-    Refused(Error),
+impl From<memory_layout::Error> for Error {
+    ghost from_gives = { λ fault error. error ≡ MemoryLayout fault };
+
+    fn from(fault: memory_layout::Error) -> Error {
+        Error::MemoryLayout(fault)
+    }
+}
+
+// A protocol that was announced, with how many pages the store holds for it.
+#[derive(Clone, Copy, Debug, PartialEq, Eq)]
+pub struct Interface {
+    pub protocol: DfuProtocol,
+    pub pages: usize,
 }
 
 // A control transfer that carries no data.
-#[derive(Clone, Copy)]
+#[derive(Clone, Copy, Debug, PartialEq, Eq)]
 pub struct UsbWriteControl {
     pub request_type: u8,
     pub request: u8,
     pub value: u16,
 }
 
-// Where the last slash of a text is.
-#[derive(Clone, Copy)]
-pub enum Slash {
-    At(usize),
-    Nowhere,
-}
-
-// The address between the last two slashes.
-#[derive(Clone, Copy)]
-pub enum Address {
-    At(u32),
-    NoSlash,
-    Bad,
-}
-
-fn last_slash(s: &[u8]) -> Slash
-    ensures { result ≡ place_of (rsplit s.now) }
+fn last_slash(s: &[u8]) -> Option<usize>
+    ensures place { result ≡ place_of (rsplit s.now) }
+    ensures inside { IfSome result (λ i. i < length s.now) }
 {
-    let mut i = s.len();
-    while 0 < i {
-        i -= 1;
-        if s[i] == b'/' {
-            return Slash::At(i);
-        }
-    }
-    Slash::Nowhere
+    s.iter().rposition(|byte| *byte == b'/')
+}
+
+// What stands before and after the last slash.
+#[tactic(auto, using(crate::proofs::Cuts::parts))]
+fn cut_at_slash(s: &[u8]) -> Option<(&[u8], &[u8])>
+    ensures { rsplit s.now ≡ option_map_or (λ parts. cut parts.0.now parts.1.now) result whole }
+{
+    let slash = last_slash(s)?;
+    Some((&s[..slash], &s[slash + 1..]))
 }
 
 // The address at the end of the text before the layout's slash.
-fn address_in(rest: &[u8]) -> Address
+#[tactic(auto, unfolding(crate::specs::Interface::address_of))]
+fn address_in(rest: &[u8]) -> Result<u32, Error>
     ensures { result ≡ address_of (rsplit rest.now) }
 {
-    let slash = last_slash(rest);
-    let Slash::At(i) = slash else {
-        return Address::NoSlash;
+    let Some((_, text)) = cut_at_slash(rest) else {
+        return Err(Error::InvalidInterfaceString);
     };
-    let text = &rest[i + 1..];
     if !ground::starts_with(text, b"0x") {
-        return Address::Bad;
+        return Err(Error::InvalidAddress);
     }
-    let value = numeral::hex(&text[2..]);
-    match value {
-        Number::Value(v) => Address::At(v),
-        Number::Bad => Address::Bad,
-    }
-}
-
-// A layout's own fault comes first.
-fn refused_by(layout: MemoryLayout, otherwise: Error) -> Interface
-    ensures { result ≡ refused_by layout otherwise }
-{
-    match layout {
-        MemoryLayout::Pages(_) => Interface::Refused(otherwise),
-        MemoryLayout::Refused(error) => Interface::Refused(Error::MemoryLayout(error)),
-    }
+    numeral::hex(&text[2..]).ok_or(Error::InvalidAddress)
 }
 
 // A DfuSe interface string. Pages are stored only if the whole of it is good.
-fn dfuse(s: &[u8], store: &mut [u32]) -> Interface
+#[tactic(auto, unfolding(crate::specs::Interface::dfuse_of))]
+fn dfuse(s: &[u8], store: &mut [u32]) -> Result<Interface, Error>
     ensures { done result store.new ≡ dfuse_of (rsplit s.now) store.old }
 {
-    let slash = last_slash(s);
-    let Slash::At(i) = slash else {
-        return Interface::Refused(Error::InvalidInterfaceString);
+    let Some((rest, layout)) = cut_at_slash(s) else {
+        return Err(Error::InvalidInterfaceString);
     };
-    let address = address_in(&s[..i]);
-    let layout = &s[i + 1..];
-    match address {
-        Address::At(a) => {
-            let read = MemoryLayout::try_from(layout, store);
-            match read {
-                MemoryLayout::Pages(n) => Interface::Read {
-                    protocol: DfuProtocol::Dfuse { address: a },
-                    pages: n,
-                },
-                MemoryLayout::Refused(error) => Interface::Refused(Error::MemoryLayout(error)),
-            }
+    match address_in(rest) {
+        Ok(address) => {
+            let layout = MemoryLayout::try_from(layout, store)?;
+            Ok(Interface {
+                protocol: DfuProtocol::Dfuse { address },
+                pages: layout.pages,
+            })
         }
-        Address::NoSlash => refused_by(
-            MemoryLayout::check(layout, store.len()),
-            Error::InvalidInterfaceString,
-        ),
-        Address::Bad => refused_by(
-            MemoryLayout::check(layout, store.len()),
-            Error::InvalidAddress,
-        ),
+        Err(error) => {
+            // A layout's own fault comes first.
+            MemoryLayout::check(layout, store.len())?;
+            Err(error)
+        }
     }
 }
 
 impl DfuProtocol {
     // The protocol of a version and an interface string. Plain DFU leaves the string unread, and a refusal the store as it was.
-    pub fn new(interface_string: &[u8], version: Version, store: &mut [u32]) -> Interface
+    #[tactic(auto, unfolding(crate::specs::Interface::interface_of))]
+    pub fn new(
+        interface_string: &[u8],
+        version: Version,
+        store: &mut [u32],
+    ) -> Result<Interface, Error>
         ensures { done result store.new ≡ interface_of interface_string.now version store.old }
     {
-        let major = version.0;
-        let minor = version.1;
-        if major != 1 {
-            return Interface::Refused(Error::UnknownProtocol);
-        }
-        if minor == 0x10 {
-            return Interface::Read {
+        match version {
+            Version(1, 0x10) => Ok(Interface {
                 protocol: DfuProtocol::Dfu,
                 pages: 0,
-            };
+            }),
+            Version(1, 0x1a) if MAX_TEXT < interface_string.len() => Err(Error::TextTooLong),
+            Version(1, 0x1a) => dfuse(interface_string, store),
+            _ => Err(Error::UnknownProtocol),
         }
-        if minor != 0x1a {
-            return Interface::Refused(Error::UnknownProtocol);
-        }
-        if MAX_TEXT < interface_string.len() {
-            return Interface::Refused(Error::TextTooLong);
-        }
-        dfuse(interface_string, store)
+    }
+
+    // Whether it is DfuSe.
+    pub fn is_dfuse(self) -> bool
+        ensures { result ≡ dfuseb self }
+    {
+        matches!(self, DfuProtocol::Dfuse { .. })
     }
 }
 
@@ -172,41 +149,49 @@ pub fn detach() -> UsbWriteControl
     }
 }
 
-impl Error {
-    // The number and values of the refusal.
-    pub fn said(self) -> Report
-        ensures { result ≡ report_of (said_refusal self) }
-    {
-        match self {
-            Error::UnknownProtocol => Report::plain(7),
-            Error::TextTooLong => Report::plain(20),
-            Error::InvalidInterfaceString => Report::plain(8),
-            Error::MemoryLayout(e) => e.said(),
-            Error::InvalidAddress => Report::plain(13),
+impl Answer for Interface {
+    ghost tells = { said_interface };
+
+    fn said(self) -> Report {
+        match self.protocol {
+            DfuProtocol::Dfu => Report::of(0, []),
+            DfuProtocol::Dfuse { address } => Report::of(
+                0,
+                [u64::from(address), self.pages as u64],
+            ),
         }
     }
 }
 
-impl DfuProtocol {
-    // The values of a protocol with so many pages.
-    fn said(self, pages: usize) -> Report
-        ensures { result ≡ report_of (said_protocol self pages) }
-    {
+impl Answer for Error {
+    ghost tells = { said_refusal };
+
+    fn said(self) -> Report {
         match self {
-            DfuProtocol::Dfu => Report::plain(0),
-            DfuProtocol::Dfuse { address } => Report::two(0, address as u64, pages as u64),
+            Error::UnknownProtocol => Report::of(7, []),
+            Error::TextTooLong => Report::of(20, []),
+            Error::InvalidInterfaceString => Report::of(8, []),
+            Error::MemoryLayout(fault) => fault.said(),
+            Error::InvalidAddress => Report::of(13, []),
         }
     }
 }
 
-impl Interface {
-    // The number and values of the answer.
-    pub fn said(self) -> Report
-        ensures { result ≡ report_of (said_of self) }
-    {
+impl fmt::Display for Error {
+    fn fmt<W: fmt::Write>(&self, f: &mut fmt::Formatter<W>) -> fmt::Result {
         match self {
-            Interface::Read { protocol, pages } => protocol.said(pages),
-            Interface::Refused(e) => e.said(),
+            Error::UnknownProtocol => write!(f, "the DFU version is not known"),
+            Error::TextTooLong => write!(f, "the string is longer than 1024 bytes"),
+            Error::InvalidInterfaceString => write!(f, "the string has fewer than two slashes"),
+            Error::MemoryLayout(fault) => write!(f, "{fault}"),
+            Error::InvalidAddress => {
+                write!(
+                    f,
+                    "the address is not 0x and a hexadecimal number below 2^32"
+                )
+            }
         }
     }
 }
+
+impl std::error::Error for Error {}

@@ -1,139 +1,119 @@
 // A download from its start to its end, and what is told about it.
 use crate::run::Run;
+use crate::stop::{Stop, refuse};
 use crate::words::Words;
-use crate::{print, refusals, report, run, warnings};
+use crate::{list, report, warnings};
 use functional_descriptor::FunctionalDescriptor;
 use ground::Version;
 use machine::Ask;
 use protocol::DfuProtocol;
-use start::{DfuSansIo, Started};
+use session::Session;
+use start::DfuSansIo;
 use std::io;
-use work::End;
+use work::{End, Setup};
 
-// The device that the words describe.
-fn sans_io(words: Words) -> DfuSansIo {
-    let io = DfuSansIo::new(FunctionalDescriptor {
-        can_download: true,
-        can_upload: false,
-        manifestation_tolerant: words.tolerant,
-        will_detach: words.detach,
-        detach_timeout: 0,
-        transfer_size: words.size,
-        dfu_version: Version(1, 1),
-    });
-    if words.is_moved {
-        return io.set_address(words.address);
-    }
-    io
+// What is rehearsed: the pages are those of the interface string.
+#[derive(Clone, Copy)]
+pub struct Rehearsal<'a> {
+    pub words: Words,
+    pub protocol: DfuProtocol,
+    pub firmware: &'a [u8],
+    pub pages: &'a [u32],
 }
 
-fn show_target(
-    rt: &impl Print,
-    words: Words,
-    protocol: DfuProtocol,
-    length: usize,
-) -> io::Result<()> {
-    match protocol {
-        DfuProtocol::Dfu => report::target(rt, false, 0, length),
-        DfuProtocol::Dfuse { address } => {
-            let to = if words.is_moved {
-                words.address
-            } else {
-                address
-            };
-            report::target(rt, true, to, length)
+impl Rehearsal<'_> {
+    // The device that the words describe.
+    fn sans_io(self) -> DfuSansIo {
+        let options = self.words.options;
+        DfuSansIo {
+            descriptor: FunctionalDescriptor {
+                can_download: true,
+                can_upload: false,
+                manifestation_tolerant: options.tolerant,
+                will_detach: options.detach,
+                detach_timeout: 0,
+                transfer_size: self.words.size,
+                dfu_version: Version(1, 1),
+            },
+            override_address: options.address,
         }
     }
-}
 
-fn show_end(rt: &impl Print, end: End) -> io::Result<()> {
-    match end {
-        End::Stays => print::text(rt, b"finished: the device stays\n"),
-        End::Reset => print::text(rt, b"finished: by a USB reset\n"),
-    }
-}
-
-// What is worth a second look, however it ended.
-fn warn(rt: &impl Print, words: Words, protocol: DfuProtocol, run: Run) -> io::Result<()> {
-    let session = run.session;
-    let setup = session.setup;
-    warnings::address(rt, words, protocol)?;
-    warnings::size(rt, setup)?;
-    warnings::length(rt, setup)
-}
-
-// The budget that suffices; an update that sends nothing needs none.
-fn show_budget(
-    rt: &impl Print,
-    words: Words,
-    protocol: DfuProtocol,
-    firmware: &[u8],
-    pages: &[u32],
-    run: Run,
-) -> io::Result<()> {
-    report::transfers(rt, run.transfers)?;
-    if run.transfers == 0 {
-        return Ok(());
-    }
-    let busy = words.busy as u64;
-    let suffices = budget::enough(sans_io(words), protocol, firmware, pages, busy);
-    report::budget(rt, suffices, busy)
-}
-
-// The blocks and the pages.
-fn show_parts(rt: &impl Print, pages: &[u32], run: Run) -> io::Result<()> {
-    let session = run.session;
-    let setup = session.setup;
-    report::blocks(rt, setup, run.blocks)?;
-    report::pages(rt, setup, pages, run.erases)
-}
-
-// What was counted, the warnings, and as the last line how it ended.
-fn show_run(
-    rt: &impl Print,
-    words: Words,
-    protocol: DfuProtocol,
-    firmware: &[u8],
-    pages: &[u32],
-    run: Run,
-) -> io::Result<()> {
-    show_parts(rt, pages, run)?;
-    let says = run.says;
-    match says {
-        Ask::Finished(end) => {
-            show_budget(rt, words, protocol, firmware, pages, run)?;
-            warn(rt, words, protocol, run)?;
-            show_end(rt, end)
+    // Runs a session to its end, with a device that shows each awaited state at once.
+    fn run(self, rt: &impl Print, session: Session) -> io::Result<Run> {
+        let mut run = Run::new(session);
+        let mut command = [0u8; 5];
+        // Nothing says here that the session ends, so its calls are counted up to a number that none reaches.
+        for _ in 0..u64::MAX {
+            if run.says.is_end() {
+                break;
+            }
+            if self.words.options.list {
+                list::show(rt, run.says, run.next_page(self.pages))?;
+            }
+            run = run.after(at_once::told(run.session, self.firmware, self.pages, &mut command));
         }
-        Ask::Refused(error) => {
-            report::transfers_before(rt, run.transfers)?;
-            warn(rt, words, protocol, run)?;
-            warnings::pages(rt, error, run.erases)?;
-            refusals::session(rt, error)
-        }
-        _ => Ok(()),
+        Ok(run)
     }
-}
 
-// Rehearses the download of a firmware.
-pub fn show(
-    rt: &impl Print,
-    words: Words,
-    protocol: DfuProtocol,
-    firmware: &[u8],
-    pages: &[u32],
-) -> io::Result<()> {
-    show_target(rt, words, protocol, firmware.len())?;
-    let io = sans_io(words);
-    let started = io.download(protocol, firmware, pages, u64::MAX);
-    match started {
-        Started::Refused(error) => {
-            warnings::address(rt, words, protocol)?;
-            refusals::start(rt, error)
+    // The budget that suffices; an update that sends nothing needs none.
+    fn show_budget(self, rt: &impl Print, transfers: u64) -> io::Result<()> {
+        if transfers == 0 {
+            return println!(rt; "transfers: none");
         }
-        Started::Session(session) => {
-            let run = run::whole(rt, session, firmware, pages, words.list)?;
-            show_run(rt, words, protocol, firmware, pages, run)
+        println!(rt; "transfers: {transfers} if no reply is busy")?;
+        let busy = u64::from(self.words.options.busy);
+        let io = self.sans_io();
+        let enough = budget::enough(io, self.protocol, self.firmware, self.pages, busy);
+        report::budget(rt, enough, busy)
+    }
+
+    // What is worth a second look, however it ended.
+    fn warn(self, rt: &impl Print, setup: Setup) -> io::Result<()> {
+        warnings::address(rt, self.words.options.address, self.protocol)?;
+        warnings::size(rt, setup)?;
+        warnings::length(rt, setup)
+    }
+
+    // What was counted, the warnings, and as the last line how it ended.
+    fn show_run(self, rt: &impl Print, run: Run) -> Result<(), Stop> {
+        let setup = run.session.setup;
+        report::blocks(rt, setup, run.blocks)?;
+        report::pages(rt, setup, self.pages, run.erases)?;
+        match run.says {
+            Ask::Finished(end) => {
+                self.show_budget(rt, run.transfers)?;
+                self.warn(rt, setup)?;
+                match end {
+                    End::Stays => println!(rt; "finished: the device stays")?,
+                    End::Reset => println!(rt; "finished: by a USB reset")?,
+                }
+                Ok(())
+            }
+            Ask::Refused(error) => {
+                println!(rt; "transfers: {} before the refusal", run.transfers)?;
+                self.warn(rt, setup)?;
+                warnings::pages(rt, error, run.erases)?;
+                refuse(rt, error)
+            }
+            Ask::Transfer(_) | Ask::Wait(_) | Ask::Reset => Ok(()),
+        }
+    }
+
+    // Rehearses the download.
+    pub fn show(self, rt: &impl Print) -> Result<(), Stop> {
+        let address = self.words.options.address;
+        report::target(rt, self.protocol, address, self.firmware.len())?;
+        let io = self.sans_io();
+        match io.download(self.protocol, self.firmware, self.pages, u64::MAX) {
+            Ok(session) => {
+                let run = self.run(rt, session)?;
+                self.show_run(rt, run)
+            }
+            Err(error) => {
+                warnings::address(rt, address, self.protocol)?;
+                refuse(rt, error)
+            }
         }
     }
 }

@@ -1,277 +1,220 @@
 // The words that the program is started with.
-use crate::print;
-use numeral::Number;
+use crate::stop::{Stop, refuse_word};
+use console::{LONGEST_WORD, is_there, word};
 use std::env::{Env, FillError};
-use std::io;
+use std::fmt;
 
-// The longest word that is read.
-pub const LONGEST: usize = 4096;
-
-// What the words ask for.
-#[derive(Clone, Copy)]
-pub struct Words {
+// What the options ask for.
+#[derive(Clone, Copy, Debug, PartialEq, Eq)]
+pub struct Options {
     pub plain: bool,
     pub tolerant: bool,
     pub detach: bool,
     pub list: bool,
     pub help: bool,
-    // The address that --address gives, if it stands there.
-    pub is_moved: bool,
-    pub address: u32,
+    // The address that --address gives.
+    pub address: Option<u32>,
     // How many busy replies a wait may have.
     pub busy: u32,
-    pub size: u16,
-    // Where STRING and FILE stand among the words.
+}
+
+// What is to be rehearsed: STRING and FILE by their places among the words.
+#[derive(Clone, Copy, Debug, PartialEq, Eq)]
+pub struct Words {
+    pub options: Options,
     pub string: usize,
+    pub size: u16,
     pub file: usize,
-    // How many of STRING, SIZE and FILE were read.
-    pub read: u8,
-    // An option whose number is the next word.
-    pub awaits_address: bool,
-    pub awaits_busy: bool,
-    // Whether a word was refused; its line is printed already.
-    pub refused: bool,
 }
 
-fn none() -> Words {
-    Words {
-        plain: false,
-        tolerant: false,
-        detach: false,
-        list: false,
-        help: false,
-        is_moved: false,
-        address: 0,
-        busy: 2,
-        size: 0,
-        string: 0,
-        file: 0,
-        read: 0,
-        awaits_address: false,
-        awaits_busy: false,
-        refused: false,
-    }
+// An option whose number is the next word.
+#[derive(Clone, Copy, Debug, PartialEq, Eq)]
+enum Numbered {
+    Address,
+    Busy,
 }
 
-// Refuses a word, with what is wrong about it.
-fn refuse(rt: &impl Print, words: Words, word: &[u8], why: &[u8]) -> io::Result<Words> {
-    print::text(rt, b"refused: '")?;
-    print::word(rt, word)?;
-    print::text(rt, b"' ")?;
-    print::text(rt, why)?;
-    print::text(rt, b"\n")?;
-    let mut next = words;
-    next.refused = true;
-    Ok(next)
+// What the words so far say.
+#[derive(Clone, Copy, Debug, PartialEq, Eq)]
+struct Begun {
+    options: Options,
+    awaited: Option<Numbered>,
+    string: Option<usize>,
+    size: Option<u16>,
+    file: Option<usize>,
 }
 
-fn is(word: &[u8], name: &[u8]) -> bool {
-    if word.len() != name.len() {
-        return false;
-    }
-    ground::starts_with(word, name)
+// What is wrong about a word.
+#[derive(Clone, Copy, Debug, PartialEq, Eq)]
+enum Refusal {
+    NoOption,
+    NoAddress,
+    NoNumber,
+    NoSize,
+    OneTooMany,
+    TooLong,
 }
 
-// An option, or no word that is known.
-fn option(rt: &impl Print, words: Words, word: &[u8]) -> io::Result<Words> {
-    let mut next = words;
-    if is(word, b"--plain") {
-        next.plain = true;
-        return Ok(next);
+impl fmt::Display for Refusal {
+    fn fmt<W: fmt::Write>(&self, f: &mut fmt::Formatter<W>) -> fmt::Result {
+        match self {
+            Refusal::NoOption => write!(f, "is no option (see --help)"),
+            Refusal::NoAddress => write!(f, "is no address from 0 to 0xffffffff"),
+            Refusal::NoNumber => write!(f, "is no number from 0 to 4294967295"),
+            Refusal::NoSize => write!(f, "is no transfer size from 0 to 65535"),
+            Refusal::OneTooMany => write!(f, "is one word too many (see --help)"),
+            Refusal::TooLong => write!(f, "begins a word of more than {LONGEST_WORD} bytes"),
+        }
     }
-    if is(word, b"--tolerant") {
-        next.tolerant = true;
-        return Ok(next);
-    }
-    if is(word, b"--detach") {
-        next.detach = true;
-        return Ok(next);
-    }
-    if is(word, b"--list") {
-        next.list = true;
-        return Ok(next);
-    }
-    if is(word, b"--help") {
-        next.help = true;
-        return Ok(next);
-    }
-    if is(word, b"--address") {
-        next.awaits_address = true;
-        return Ok(next);
-    }
-    if is(word, b"--busy") {
-        next.awaits_busy = true;
-        return Ok(next);
-    }
-    refuse(rt, words, word, b"is no option (see --help)")
 }
 
 // A number below 2^32, decimal or hexadecimal.
-fn number_of(word: &[u8]) -> Number {
-    if word.len() < 2 {
-        return numeral::decimal(word);
+fn number_of(word: &[u8]) -> Option<u32> {
+    match word {
+        [b'0', b'x', digits @ ..] => numeral::hex(digits),
+        _ => numeral::decimal(word),
     }
-    if ground::starts_with(word, b"0x") {
-        return numeral::hex(&word[2..]);
-    }
-    numeral::decimal(word)
 }
 
-// The number of --address.
-fn address(rt: &impl Print, words: Words, word: &[u8]) -> io::Result<Words> {
-    let read = number_of(word);
-    match read {
-        Number::Value(value) => {
-            let mut next = words;
-            next.is_moved = true;
-            next.address = value;
-            next.awaits_address = false;
-            Ok(next)
+// A transfer size.
+fn size_of(word: &[u8]) -> Option<u16> {
+    u16::try_from(numeral::decimal(word)?).ok()
+}
+
+impl Begun {
+    // What no words say.
+    fn new() -> Begun {
+        Begun {
+            options: Options {
+                plain: false,
+                tolerant: false,
+                detach: false,
+                list: false,
+                help: false,
+                address: None,
+                busy: 2,
+            },
+            awaited: None,
+            string: None,
+            size: None,
+            file: None,
         }
-        Number::Bad => refuse(rt, words, word, b"is no address from 0 to 0xffffffff"),
     }
-}
 
-// The number of --busy.
-fn busy(rt: &impl Print, words: Words, word: &[u8]) -> io::Result<Words> {
-    let read = numeral::decimal(word);
-    match read {
-        Number::Value(value) => {
-            let mut next = words;
-            next.busy = value;
-            next.awaits_busy = false;
-            Ok(next)
+    // An option, or no word that is known.
+    fn with_option(mut self, word: &[u8]) -> Result<Begun, Refusal> {
+        match word {
+            b"--plain" => self.options.plain = true,
+            b"--tolerant" => self.options.tolerant = true,
+            b"--detach" => self.options.detach = true,
+            b"--list" => self.options.list = true,
+            b"--help" => self.options.help = true,
+            b"--address" => self.awaited = Some(Numbered::Address),
+            b"--busy" => self.awaited = Some(Numbered::Busy),
+            _ => return Err(Refusal::NoOption),
         }
-        Number::Bad => refuse(rt, words, word, b"is no number from 0 to 4294967295"),
+        Ok(self)
     }
-}
 
-// SIZE
-fn size(rt: &impl Print, words: Words, word: &[u8]) -> io::Result<Words> {
-    let why = b"is no transfer size from 0 to 65535";
-    let read = numeral::decimal(word);
-    match read {
-        Number::Value(value) => {
-            if 65535 < value {
-                return refuse(rt, words, word, why);
+    // The number of an option.
+    fn with_number(mut self, option: Numbered, word: &[u8]) -> Result<Begun, Refusal> {
+        match option {
+            Numbered::Address => {
+                self.options.address = Some(number_of(word).ok_or(Refusal::NoAddress)?);
             }
-            let mut next = words;
-            next.size = value as u16;
-            next.read = 2;
-            Ok(next)
+            Numbered::Busy => {
+                self.options.busy = numeral::decimal(word).ok_or(Refusal::NoNumber)?;
+            }
         }
-        Number::Bad => refuse(rt, words, word, why),
+        self.awaited = None;
+        Ok(self)
+    }
+
+    // A word that is no option: STRING, SIZE and FILE in this order.
+    fn with_placed(mut self, at: usize, word: &[u8]) -> Result<Begun, Refusal> {
+        if self.string.is_none() {
+            self.string = Some(at);
+        } else if self.size.is_none() {
+            self.size = Some(size_of(word).ok_or(Refusal::NoSize)?);
+        } else if self.file.is_none() {
+            self.file = Some(at);
+        } else {
+            return Err(Refusal::OneTooMany);
+        }
+        Ok(self)
+    }
+
+    // One word more.
+    fn with_word(self, at: usize, word: &[u8]) -> Result<Begun, Refusal> {
+        match self.awaited {
+            Some(option) => self.with_number(option, word),
+            None if ground::starts_with(word, b"--") => self.with_option(word),
+            None => self.with_placed(at, word),
+        }
+    }
+
+    // The words, or the name of what is missing at the end.
+    fn ended(self) -> Result<Words, &'static str> {
+        let Begun {
+            options,
+            awaited,
+            string,
+            size,
+            file,
+        } = self;
+        match awaited {
+            Some(Numbered::Address) => Err("the number after --address"),
+            Some(Numbered::Busy) => Err("the number after --busy"),
+            None => Ok(Words {
+                options,
+                string: string.ok_or("STRING")?,
+                size: size.ok_or("SIZE")?,
+                file: file.ok_or("FILE")?,
+            }),
+        }
     }
 }
 
-// A word that is no option: STRING, SIZE and FILE in this order.
-fn placed(rt: &impl Print, words: Words, at: usize, word: &[u8]) -> io::Result<Words> {
-    let mut next = words;
-    if words.read == 0 {
-        next.string = at;
-        next.read = 1;
-        return Ok(next);
-    }
-    if words.read == 1 {
-        return size(rt, words, word);
-    }
-    if words.read == 2 {
-        next.file = at;
-        next.read = 3;
-        return Ok(next);
-    }
-    refuse(rt, words, word, b"is one word too many (see --help)")
-}
-
-// One word more.
-fn with_word(rt: &impl Print, words: Words, at: usize, word: &[u8]) -> io::Result<Words> {
-    if words.awaits_address {
-        return address(rt, words, word);
-    }
-    if words.awaits_busy {
-        return busy(rt, words, word);
-    }
-    if ground::starts_with(word, b"--") {
-        return option(rt, words, word);
-    }
-    placed(rt, words, at, word)
-}
-
-// Refuses a word that is too long; its beginning names it.
-fn too_long(rt: &impl Print, words: Words, start: &[u8]) -> io::Result<Words> {
-    let why = b"begins a word of more than 4096 bytes";
-    if 32 <= start.len() {
-        return refuse(rt, words, &start[0..32], why);
-    }
-    refuse(rt, words, start, why)
-}
-
-// The word at a place of the command line.
-fn next(rt: &(impl Env + Print), words: Words, at: usize) -> io::Result<Words> {
-    let mut space = [0u8; LONGEST];
-    match rt.arg(at, &mut space) {
-        Ok(n) => with_word(rt, words, at, &space[..n]),
-        Err(_) => too_long(rt, words, &space),
-    }
-}
-
-// Whether a word stands at a place of the command line.
-fn is_there(rt: &impl Env, at: usize) -> bool {
-    match rt.arg(at, &mut []) {
-        Err(FillError::NotPresent) => false,
-        _ => true,
+// With the word at a place of the command line, if one stands there.
+fn next(rt: &(impl Env + Print), begun: Begun, at: usize) -> Result<Option<Begun>, Stop> {
+    let mut space = [0u8; LONGEST_WORD];
+    match word(rt, at, &mut space) {
+        Ok(word) => match begun.with_word(at, word) {
+            Ok(next) => Ok(Some(next)),
+            Err(refusal) => refuse_word(rt, word, refusal),
+        },
+        Err(FillError::NotPresent) => Ok(None),
+        // The beginning names the word.
+        Err(FillError::TooLong) => {
+            let beginning = space.get(..32).unwrap_or(&space);
+            refuse_word(rt, beginning, Refusal::TooLong)
+        }
     }
 }
 
 // Goes through the words up to the first that is refused; the first of all is the program's name.
-fn all(rt: &(impl Env + Print)) -> io::Result<Words> {
-    let mut words = none();
+fn all(rt: &(impl Env + Print)) -> Result<Begun, Stop> {
+    let mut begun = Begun::new();
     for at in 1..usize::MAX {
-        if !is_there(rt, at) {
-            return Ok(words);
-        }
-        words = next(rt, words, at)?;
-        if words.refused {
-            return Ok(words);
+        match next(rt, begun, at)? {
+            Some(next) => begun = next,
+            None => break,
         }
     }
-    Ok(words)
+    Ok(begun)
 }
 
-// Refuses what is missing at the end.
-fn missing(rt: &impl Print, words: Words, name: &[u8]) -> io::Result<Words> {
-    refuse(rt, words, name, b"is missing (see --help)")
-}
-
-// Whether all is there.
-fn ended(rt: &impl Print, words: Words) -> io::Result<Words> {
-    if words.refused {
-        return Ok(words);
-    }
-    if words.help {
-        return Ok(words);
-    }
-    if words.awaits_address {
-        return missing(rt, words, b"the number after --address");
-    }
-    if words.awaits_busy {
-        return missing(rt, words, b"the number after --busy");
-    }
-    let read = words.read;
-    match read {
-        0 => missing(rt, words, b"STRING"),
-        1 => missing(rt, words, b"SIZE"),
-        2 => missing(rt, words, b"FILE"),
-        _ => Ok(words),
-    }
-}
-
-// What the command line asks for; with no words at all it is help.
-pub fn read(rt: &(impl Env + Print)) -> io::Result<Words> {
+// What the command line asks to rehearse, or nothing if it asks for help: so it does too with no words at all.
+pub fn read(rt: &(impl Env + Print)) -> Result<Option<Words>, Stop> {
     if !is_there(rt, 1) {
-        let mut words = none();
-        words.help = true;
-        return Ok(words);
+        return Ok(None);
     }
-    ended(rt, all(rt)?)
+    let begun = all(rt)?;
+    if begun.options.help {
+        return Ok(None);
+    }
+    match begun.ended() {
+        Ok(words) => Ok(Some(words)),
+        Err(name) => refuse_word(rt, name.as_bytes(), "is missing (see --help)"),
+    }
 }

@@ -12,10 +12,8 @@ fn byte(place: usize) -> u8 {
 
 // Fills an array by the rule.
 pub fn fill(firmware: &mut [u8; LONGEST]) {
-    let mut i = 0;
-    while i < LONGEST {
-        firmware[i] = byte(i);
-        i += 1;
+    for (place, b) in firmware.iter_mut().enumerate() {
+        *b = byte(place);
     }
 }
 
@@ -24,14 +22,9 @@ pub fn follows(bytes: &[u8], place: usize) -> bool {
     if LONGEST < place {
         return false;
     }
-    if LONGEST - place < bytes.len() {
-        return false;
-    }
     let mut other: u8 = 0;
-    let mut i = 0;
-    while i < bytes.len() {
-        other = other | (bytes[i] ^ byte(place + i));
-        i += 1;
+    for (i, b) in bytes.iter().enumerate() {
+        other |= *b ^ byte(place + i);
     }
-    other == 0
+    other == 0 && bytes.len() <= LONGEST - place
 }

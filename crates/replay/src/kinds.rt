@@ -1,5 +1,5 @@
 // The kinds of lines, by their first word.
-#[derive(Clone, Copy)]
+#[derive(Clone, Copy, Debug, PartialEq, Eq)]
 pub enum Kind {
     // An empty line or a comment.
     Passed,
@@ -15,40 +15,35 @@ pub enum Kind {
     Bad,
 }
 
+// The most bytes that a line may have.
+const LONGEST: usize = 65535;
+
 // What a line is by its first word; what follows the word is left to the case's own reader.
 pub fn of(line: &[u8]) -> Kind {
-    if 65535 < line.len() {
+    if LONGEST < line.len() {
         return Kind::Bad;
     }
-    if line.len() == 0 {
-        return Kind::Passed;
+    match line {
+        [] | [b'#', ..] => Kind::Passed,
+        b"detach" => Kind::Detach,
+        _ => by_word(line),
     }
-    if line[0] == b'#' {
-        return Kind::Passed;
-    }
-    if ground::starts_with(line, b"descriptor ") {
-        return Kind::Descriptor;
-    }
-    if ground::starts_with(line, b"reply ") {
-        return Kind::Reply;
-    }
-    if ground::starts_with(line, b"layout ") {
-        return Kind::Layout;
-    }
-    if ground::starts_with(line, b"string ") {
-        return Kind::String;
-    }
-    if line.len() == 6 && ground::starts_with(line, b"detach") {
-        return Kind::Detach;
-    }
-    if ground::starts_with(line, b"begin ") {
-        return Kind::Begin;
-    }
-    if ground::starts_with(line, b"session ") {
-        return Kind::Session;
-    }
-    if ground::starts_with(line, b"suffix ") {
-        return Kind::Suffix;
+}
+
+fn by_word(line: &[u8]) -> Kind {
+    let kinds: [(&[u8], Kind); 7] = [
+        (b"descriptor ", Kind::Descriptor),
+        (b"reply ", Kind::Reply),
+        (b"layout ", Kind::Layout),
+        (b"string ", Kind::String),
+        (b"begin ", Kind::Begin),
+        (b"session ", Kind::Session),
+        (b"suffix ", Kind::Suffix),
+    ];
+    for (word, kind) in kinds {
+        if line.starts_with(word) {
+            return kind;
+        }
     }
     Kind::Bad
 }

@@ -1,45 +1,39 @@
 // The cases that are one call: each line is read to its end, and then the call is made and answered.
 use crate::store;
-use cases::words::{Amount, Bytes};
-use cases::{output, words};
-use functional_descriptor::{Descriptor, FunctionalDescriptor};
-use get_status::{GetStatusMessage, Reply};
-use ground::Version;
+use cases::output::Transcript;
+use cases::words;
+use cases::words::Amount;
+use functional_descriptor::FunctionalDescriptor;
+use get_status::GetStatusMessage;
+use ground::{Answer, Version};
 use memory_layout::MemoryLayout;
-use protocol::{DfuProtocol, Interface, UsbWriteControl};
+use protocol::{DfuProtocol, Interface};
 use std::io;
 use std::io::Write;
+use suffix::Suffix;
+
+// `HEX`, the line's last word: its bytes, which are put into a buffer
+fn bytes_at<'a>(line: &[u8], at: usize, bytes: &'a mut [u8]) -> Option<&'a [u8]> {
+    let read = words::last_hex(line, at, bytes)?;
+    Some(words::first(bytes, read.len))
+}
 
 // `descriptor HEX`
 pub fn descriptor<W: Write>(
     line: &[u8],
     bytes: &mut [u8],
     sink: &mut W,
-    out: &mut [u8],
-    at: usize,
-) -> io::Result<usize> {
-    let read = words::last_hex(line, 11, bytes);
-    match read {
-        Bytes::Bad => output::bad_line(sink, out, at),
-        Bytes::Read { len, end: _ } => {
-            let d = FunctionalDescriptor::from_bytes(words::first(bytes, len));
-            let at = descriptor_words(d, sink, out, at)?;
-            output::line_end(sink, out, at)
-        }
+    out: &mut Transcript<'_>,
+) -> io::Result<()> {
+    let Some(bytes) = bytes_at(line, 11, bytes) else {
+        return out.bad_line(sink);
+    };
+    out.text(sink, b"descriptor")?;
+    match FunctionalDescriptor::from_bytes(bytes) {
+        None => out.text(sink, b" none")?,
+        Some(answer) => out.said(sink, answer.said())?,
     }
-}
-
-fn descriptor_words<W: Write>(
-    d: Descriptor,
-    sink: &mut W,
-    out: &mut [u8],
-    at: usize,
-) -> io::Result<usize> {
-    let at = output::text(sink, out, at, b"descriptor")?;
-    match d {
-        Descriptor::NotOne => output::text(sink, out, at, b" none"),
-        _ => output::said(sink, out, at, d.said()),
-    }
+    out.line_end(sink)
 }
 
 // `reply HEX`
@@ -47,252 +41,178 @@ pub fn reply<W: Write>(
     line: &[u8],
     bytes: &mut [u8],
     sink: &mut W,
-    out: &mut [u8],
-    at: usize,
-) -> io::Result<usize> {
-    let read = words::last_hex(line, 6, bytes);
-    match read {
-        Bytes::Bad => output::bad_line(sink, out, at),
-        Bytes::Read { len, end: _ } => {
-            let r = GetStatusMessage::strict_from_bytes(words::first(bytes, len));
-            let at = reply_words(r, sink, out, at)?;
-            output::line_end(sink, out, at)
-        }
-    }
-}
-
-fn reply_words<W: Write>(r: Reply, sink: &mut W, out: &mut [u8], at: usize) -> io::Result<usize> {
-    let at = output::text(sink, out, at, b"reply")?;
-    output::said(sink, out, at, r.said())
+    out: &mut Transcript<'_>,
+) -> io::Result<()> {
+    let Some(bytes) = bytes_at(line, 6, bytes) else {
+        return out.bad_line(sink);
+    };
+    out.text(sink, b"reply")?;
+    out.said(sink, GetStatusMessage::strict_from_bytes(bytes).said())?;
+    out.line_end(sink)
 }
 
 // `detach`
-pub fn detach<W: Write>(sink: &mut W, out: &mut [u8], at: usize) -> io::Result<usize> {
-    let at = output::text(sink, out, at, b"detach")?;
-    let at = output::values(sink, out, at, &transfer(protocol::detach()))?;
-    output::line_end(sink, out, at)
+pub fn detach<W: Write>(sink: &mut W, out: &mut Transcript<'_>) -> io::Result<()> {
+    let t = protocol::detach();
+    out.text(sink, b"detach")?;
+    out.values(
+        sink,
+        &[
+            u64::from(t.request_type),
+            u64::from(t.request),
+            u64::from(t.value),
+        ],
+    )?;
+    out.line_end(sink)
 }
 
-fn transfer(t: UsbWriteControl) -> [u64; 3] {
-    [t.request_type as u64, t.request as u64, t.value as u64]
+// `suffix HEX`: a whole file, read by its suffix
+pub fn suffix<W: Write>(
+    line: &[u8],
+    bytes: &mut [u8],
+    sink: &mut W,
+    out: &mut Transcript<'_>,
+) -> io::Result<()> {
+    let Some(file) = bytes_at(line, 7, bytes) else {
+        return out.bad_line(sink);
+    };
+    let answer = Suffix::read(file);
+    out.text(sink, b"suffix")?;
+    out.said(sink, answer.said())?;
+    if answer.is_ok() {
+        out.value(sink, Suffix::firmware(file).len() as u64)?;
+    }
+    out.line_end(sink)
 }
 
-// What a case that lends a page store ends with: how many numbers it lends, and the bytes of its text.
-#[derive(Clone, Copy)]
-enum Lending {
-    Bad,
-    Read { size: usize, len: usize },
+// What a case that lends a page store ends with: how many numbers it lends, and how many bytes its text has.
+#[derive(Clone, Copy, Debug, PartialEq, Eq)]
+struct Lending {
+    size: usize,
+    len: usize,
 }
 
 // `STORE HEX`
-fn lending_at(line: &[u8], at: usize, bytes: &mut [u8]) -> Lending {
-    let read = words::number(line, at, 8192);
-    match read {
-        Amount::Bad => Lending::Bad,
-        Amount::Read { value, end } => {
-            let hex = words::last_hex(line, end, bytes);
-            match hex {
-                Bytes::Bad => Lending::Bad,
-                Bytes::Read { len, end: _ } => Lending::Read {
-                    size: value as usize,
-                    len,
-                },
-            }
-        }
-    }
+fn lending_at(line: &[u8], at: usize, bytes: &mut [u8]) -> Option<Lending> {
+    let Amount { value, end } = words::number(line, at, 8192)?;
+    let hex = words::last_hex(line, end, bytes)?;
+    Some(Lending {
+        size: value as usize,
+        len: hex.len,
+    })
 }
 
 // Ends the answer to a call that was lent size numbers and filled n of them.
 fn settled<W: Write>(
-    pages: &mut [u32],
+    store: &mut [u32],
     n: usize,
     size: usize,
     sink: &mut W,
-    out: &mut [u8],
-    at: usize,
-) -> io::Result<usize> {
-    if store::settle(pages, n, size) {
-        return output::line_end(sink, out, at);
+    out: &mut Transcript<'_>,
+) -> io::Result<()> {
+    if store::settle(store, n, size) {
+        return out.line_end(sink);
     }
-    output::text(sink, out, at, b" store-changed\n")
+    out.text(sink, b" store-changed\n")
 }
 
-// `layout STORE HEX`
+// `layout STORE HEX`. Beside `string`: what each reads, calls and prints differs, and what is alike is `lending_at` and `settled`.
 pub fn layout<W: Write>(
     line: &[u8],
     bytes: &mut [u8],
-    pages: &mut [u32],
+    store: &mut [u32],
     sink: &mut W,
-    out: &mut [u8],
-    at: usize,
-) -> io::Result<usize> {
-    let read = lending_at(line, 7, bytes);
-    match read {
-        Lending::Bad => output::bad_line(sink, out, at),
-        Lending::Read { size, len } => layout_of(
-            words::first(bytes, len),
-            size,
-            pages,
-            sink,
-            out,
-            at,
-        ),
-    }
-}
-
-fn layout_of<W: Write>(
-    text: &[u8],
-    size: usize,
-    pages: &mut [u32],
-    sink: &mut W,
-    out: &mut [u8],
-    at: usize,
-) -> io::Result<usize> {
-    if pages.len() < size {
-        return output::bad_line(sink, out, at);
-    }
-    let m = MemoryLayout::try_from(text, &mut pages[0..size]);
-    let at = layout_words(m, pages, sink, out, at)?;
-    settled(pages, page_count(m), size, sink, out, at)
-}
-
-// How many pages a call has stored.
-fn page_count(m: MemoryLayout) -> usize {
-    match m {
-        MemoryLayout::Pages(n) => n,
-        MemoryLayout::Refused(_) => 0,
+    out: &mut Transcript<'_>,
+) -> io::Result<()> {
+    match lending_at(line, 7, bytes) {
+        Some(Lending { size, len }) if size <= store.len() => {
+            let read = MemoryLayout::try_from(words::first(bytes, len), &mut store[..size]);
+            layout_words(read, store, sink, out)?;
+            settled(
+                store,
+                read.map_or(0, |layout| layout.pages),
+                size,
+                sink,
+                out,
+            )
+        }
+        _ => out.bad_line(sink),
     }
 }
 
 fn layout_words<W: Write>(
-    m: MemoryLayout,
-    pages: &[u32],
+    read: Result<MemoryLayout, memory_layout::Error>,
+    store: &[u32],
     sink: &mut W,
-    out: &mut [u8],
-    at: usize,
-) -> io::Result<usize> {
-    let at = output::text(sink, out, at, b"layout")?;
-    match m {
-        MemoryLayout::Pages(n) => {
-            let at = output::text(sink, out, at, b" ok")?;
-            output::pages(sink, out, at, pages, n)
-        }
-        MemoryLayout::Refused(e) => output::refused(sink, out, at, e.said()),
-    }
-}
-
-// A version, and where the next word starts.
-#[derive(Clone, Copy)]
-enum Versioned {
-    Bad,
-    Read { version: Version, end: usize },
-}
-
-// A number of a byte's size; the reader's limit lets no larger one through.
-fn small(x: u64) -> u8 {
-    if x < 256 { x as u8 } else { 0 }
-}
-
-// `MAJOR MINOR`
-fn version_at(line: &[u8], at: usize) -> Versioned {
-    let read = words::number(line, at, 255);
+    out: &mut Transcript<'_>,
+) -> io::Result<()> {
+    out.text(sink, b"layout")?;
     match read {
-        Amount::Bad => Versioned::Bad,
-        Amount::Read { value: major, end } => {
-            let rest = words::number(line, end, 255);
-            match rest {
-                Amount::Bad => Versioned::Bad,
-                Amount::Read { value: minor, end } => {
-                    let version = Version(small(major), small(minor));
-                    Versioned::Read { version, end }
-                }
-            }
+        Ok(layout) => {
+            out.text(sink, b" ok")?;
+            out.pages(sink, store, layout.pages)
         }
+        Err(e) => out.refused(sink, e.said()),
     }
+}
+
+// `MAJOR MINOR`, and where the next word starts
+fn version_at(line: &[u8], at: usize) -> Option<(Version, usize)> {
+    let major = words::number(line, at, 255)?;
+    let minor = words::number(line, major.end, 255)?;
+    let version = Version(
+        u8::try_from(major.value).ok()?,
+        u8::try_from(minor.value).ok()?,
+    );
+    Some((version, minor.end))
+}
+
+// `MAJOR MINOR STORE HEX`
+fn string_at(line: &[u8], at: usize, bytes: &mut [u8]) -> Option<(Version, Lending)> {
+    let (version, end) = version_at(line, at)?;
+    Some((version, lending_at(line, end, bytes)?))
 }
 
 // `string MAJOR MINOR STORE HEX`
 pub fn string<W: Write>(
     line: &[u8],
     bytes: &mut [u8],
-    pages: &mut [u32],
+    store: &mut [u32],
     sink: &mut W,
-    out: &mut [u8],
-    at: usize,
-) -> io::Result<usize> {
-    let read = version_at(line, 7);
-    match read {
-        Versioned::Bad => output::bad_line(sink, out, at),
-        Versioned::Read { version, end } => {
-            let rest = lending_at(line, end, bytes);
-            match rest {
-                Lending::Bad => output::bad_line(sink, out, at),
-                Lending::Read { size, len } => {
-                    string_of(
-                        words::first(bytes, len),
-                        version,
-                        size,
-                        pages,
-                        sink,
-                        out,
-                        at,
-                    )
-                }
-            }
+    out: &mut Transcript<'_>,
+) -> io::Result<()> {
+    match string_at(line, 7, bytes) {
+        Some((version, Lending { size, len })) if size <= store.len() => {
+            let read = DfuProtocol::new(words::first(bytes, len), version, &mut store[..size]);
+            string_words(read, store, sink, out)?;
+            settled(
+                store,
+                read.map_or(0, |string| string.pages),
+                size,
+                sink,
+                out,
+            )
         }
-    }
-}
-
-fn string_of<W: Write>(
-    text: &[u8],
-    version: Version,
-    size: usize,
-    pages: &mut [u32],
-    sink: &mut W,
-    out: &mut [u8],
-    at: usize,
-) -> io::Result<usize> {
-    if pages.len() < size {
-        return output::bad_line(sink, out, at);
-    }
-    let i = DfuProtocol::new(text, version, &mut pages[0..size]);
-    let at = string_words(i, pages, sink, out, at)?;
-    settled(pages, filled(i), size, sink, out, at)
-}
-
-fn filled(i: Interface) -> usize {
-    match i {
-        Interface::Read { protocol: _, pages } => pages,
-        Interface::Refused(_) => 0,
+        _ => out.bad_line(sink),
     }
 }
 
 fn string_words<W: Write>(
-    i: Interface,
+    read: Result<Interface, protocol::Error>,
     store: &[u32],
     sink: &mut W,
-    out: &mut [u8],
-    at: usize,
-) -> io::Result<usize> {
-    let at = output::text(sink, out, at, b"string")?;
-    match i {
-        Interface::Read { protocol, pages } => match protocol {
-            DfuProtocol::Dfu => output::text(sink, out, at, b" plain"),
-            DfuProtocol::Dfuse { address } => dfuse(address as u64, store, pages, sink, out, at),
+    out: &mut Transcript<'_>,
+) -> io::Result<()> {
+    out.text(sink, b"string")?;
+    match read {
+        Ok(Interface { protocol, pages }) => match protocol {
+            DfuProtocol::Dfu => out.text(sink, b" plain"),
+            DfuProtocol::Dfuse { address } => {
+                out.text(sink, b" dfuse")?;
+                out.value(sink, u64::from(address))?;
+                out.pages(sink, store, pages)
+            }
         },
-        Interface::Refused(e) => output::refused(sink, out, at, e.said()),
+        Err(e) => out.refused(sink, e.said()),
     }
-}
-
-fn dfuse<W: Write>(
-    address: u64,
-    store: &[u32],
-    pages: usize,
-    sink: &mut W,
-    out: &mut [u8],
-    at: usize,
-) -> io::Result<usize> {
-    let at = output::text(sink, out, at, b" dfuse")?;
-    let at = output::value(sink, out, at, address)?;
-    output::pages(sink, out, at, store, pages)
 }

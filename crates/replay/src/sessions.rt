@@ -1,61 +1,54 @@
 // `session`: a download, driven by the words of its line.
 use crate::case::{Case, Lent};
 use crate::row::Row;
-use crate::starting::{Target, Targeted};
-use crate::told::{Event, Word};
-use crate::{auto, case, row, starting, told, transcript};
-use cases::words::Found;
-use cases::{output, words};
-use start::{StartError, Started};
+use crate::starting::Target;
+use crate::told::Word;
+use crate::{auto, row, starting, told, transcript};
+use cases::output::Transcript;
+use cases::words;
+use ground::Answer;
+use session::Session;
+use start::StartError;
 use std::io;
 use std::io::Write;
 
-// The words before the pages.
-#[derive(Clone, Copy)]
+// The words before the pages, and where the pages start.
+#[derive(Clone, Copy, Debug, PartialEq, Eq)]
 struct Plan {
     target: Target,
     size: u16,
     tolerant: bool,
     detach: bool,
-    length: usize,
     budget: u64,
+    // How many bytes of the firmware and how many command bytes are lent.
+    length: usize,
     command: usize,
+    end: usize,
 }
 
-// A plan, and where the pages start.
-#[derive(Clone, Copy)]
-enum Planned {
-    Bad,
-    Read { plan: Plan, end: usize },
-}
-
-// `SIZE TOLERANT DETACH LENGTH BUDGET COMMAND` after a target
-fn plan_for(line: &[u8], at: usize, target: Target) -> Planned {
+// `KIND ADDRESS OVERRIDE SIZE TOLERANT DETACH LENGTH BUDGET COMMAND`
+fn plan_at(line: &[u8], at: usize) -> Option<Plan> {
+    let target = starting::target_at(line, at)?;
     let mut values = [0u64; 6];
-    let read = words::numbers(line, at, &[65535, 1, 1, 1048576, u64::MAX, 16], &mut values);
-    match read {
-        Found::Nothing => Planned::Bad,
-        Found::At(end) => {
-            let plan = Plan {
-                target,
-                size: starting::short(values[0]),
-                tolerant: values[1] == 1,
-                detach: values[2] == 1,
-                length: values[3] as usize,
-                budget: values[4],
-                command: values[5] as usize,
-            };
-            Planned::Read { plan, end }
-        }
-    }
+    let limits = [u64::from(u16::MAX), 1, 1, 1048576, u64::MAX, 16];
+    let end = words::numbers(line, target.end, &limits, &mut values)?;
+    let [size, tolerant, detach, length, budget, command] = values;
+    Some(Plan {
+        target,
+        size: u16::try_from(size).ok()?,
+        tolerant: tolerant == 1,
+        detach: detach == 1,
+        budget,
+        length: length as usize,
+        command: command as usize,
+        end,
+    })
 }
 
-fn plan_at(line: &[u8], at: usize) -> Planned {
-    let read = starting::target_at(line, at);
-    match read {
-        Targeted::Bad => Planned::Bad,
-        Targeted::Read { target, end } => plan_for(line, end, target),
-    }
+// Where the words of a session start, after its row and a colon: they are read before anything is run.
+fn words_at(line: &[u8], row: Row, bytes: &mut [u8]) -> Option<usize> {
+    let from = words::past(line, row.end?, b" :")?;
+    told::are_words(line, from, bytes).then_some(from)
 }
 
 // `session START : TOLD..`
@@ -65,48 +58,18 @@ pub fn session<W: Write>(
     firmware: &[u8],
     pages: &mut [u32],
     sink: &mut W,
-    out: &mut [u8],
-    at: usize,
-) -> io::Result<usize> {
-    let read = plan_at(line, 8);
-    match read {
-        Planned::Bad => output::bad_line(sink, out, at),
-        Planned::Read { plan, end } => {
-            let row = row::row_at(line, end, pages);
-            let at = with_row(line, plan, row, bytes, firmware, pages, sink, out, at)?;
-            row::clear(pages, row.n);
-            Ok(at)
-        }
+    out: &mut Transcript<'_>,
+) -> io::Result<()> {
+    let Some(plan) = plan_at(line, 8) else {
+        return out.bad_line(sink);
+    };
+    let row = row::row_at(line, plan.end, pages);
+    match words_at(line, row, bytes) {
+        None => out.bad_line(sink)?,
+        Some(from) => with_words(line, from, plan, row.n, bytes, firmware, pages, sink, out)?,
     }
-}
-
-// The colon and the words after it are read before anything is run.
-fn with_row<W: Write>(
-    line: &[u8],
-    plan: Plan,
-    row: Row,
-    bytes: &mut [u8],
-    firmware: &[u8],
-    pages: &[u32],
-    sink: &mut W,
-    out: &mut [u8],
-    at: usize,
-) -> io::Result<usize> {
-    if !row.good {
-        return output::bad_line(sink, out, at);
-    }
-    let colon = words::past(line, row.end, b" :");
-    match colon {
-        Found::Nothing => output::bad_line(sink, out, at),
-        Found::At(end) => {
-            if !told::are_words(line, end, bytes) {
-                return output::bad_line(sink, out, at);
-            }
-            with_words(
-                line, end, plan, row.n, bytes, firmware, pages, sink, out, at,
-            )
-        }
-    }
+    row::clear(pages, row.n);
+    Ok(())
 }
 
 // The start, and the words if it is not refused.
@@ -119,32 +82,29 @@ fn with_words<W: Write>(
     firmware: &[u8],
     pages: &[u32],
     sink: &mut W,
-    out: &mut [u8],
-    at: usize,
-) -> io::Result<usize> {
+    out: &mut Transcript<'_>,
+) -> io::Result<()> {
     let usual = Lent {
         firmware: plan.length,
         pages: n,
         command: plan.command,
     };
-    let started = start(plan, usual, firmware, pages);
-    match started {
-        Started::Refused(e) => refused(e, plan.command, sink, out, at),
-        Started::Session(session) => {
-            let case = case::begun(session, usual, plan.budget, at);
-            run(case, line, from, bytes, firmware, pages, sink, out)
+    match start(plan, usual, firmware, pages) {
+        Err(e) => refused(e, plan.command, sink, out),
+        Ok(session) => {
+            let mut case = Case::new(session, firmware, pages, usual, plan.budget);
+            case.write(sink, out)?;
+            told_words(&mut case, line, from, bytes, sink, out)
         }
     }
 }
 
-fn start(plan: Plan, usual: Lent, firmware: &[u8], pages: &[u32]) -> Started {
-    let target = plan.target;
-    let io = starting::sans_io(target, plan.size, plan.tolerant, plan.detach);
-    let protocol = starting::protocol_of(target);
+fn start(plan: Plan, usual: Lent, firmware: &[u8], pages: &[u32]) -> Result<Session, StartError> {
+    let io = starting::sans_io(plan.target, plan.size, plan.tolerant, plan.detach);
     io.download(
-        protocol,
+        plan.target.protocol,
         words::first(firmware, usual.firmware),
-        row::first(pages, usual.pages),
+        words::first(pages, usual.pages),
         plan.budget,
     )
 }
@@ -154,115 +114,55 @@ fn refused<W: Write>(
     e: StartError,
     command: usize,
     sink: &mut W,
-    out: &mut [u8],
-    at: usize,
-) -> io::Result<usize> {
-    let at = output::text(sink, out, at, b"session")?;
-    let at = output::refused(sink, out, at, e.said())?;
-    let bytes = [238u8; 16];
-    let at = transcript::line_end(0, words::first(&bytes, command), sink, out, at)?;
-    output::line_end(sink, out, at)
-}
-
-// The line of the start, and those of the words.
-fn run<W: Write>(
-    case: Case,
-    line: &[u8],
-    at: usize,
-    bytes: &mut [u8],
-    firmware: &[u8],
-    pages: &[u32],
-    sink: &mut W,
-    out: &mut [u8],
-) -> io::Result<usize> {
-    let mut command = [238u8; 16];
-    let case = case::write(case, firmware, &command, sink, out)?;
-    let walk = Walk { case, from: at };
-    let case = told_words(walk, line, bytes, firmware, pages, &mut command, sink, out)?;
-    Ok(case.at)
-}
-
-// A case, and where the words start that it has not been told.
-#[derive(Clone, Copy)]
-struct Walk {
-    case: Case,
-    from: usize,
+    out: &mut Transcript<'_>,
+) -> io::Result<()> {
+    out.text(sink, b"session")?;
+    out.refused(sink, e.said())?;
+    let bytes = [transcript::UNTOUCHED; 16];
+    transcript::line_end(0, words::first(&bytes, command), sink, out)?;
+    out.line_end(sink)
 }
 
 // Goes through the words. Each has more than a byte, so that the turns are enough.
 fn told_words<W: Write>(
-    walk: Walk,
+    case: &mut Case<'_>,
     line: &[u8],
+    at: usize,
     bytes: &mut [u8],
-    firmware: &[u8],
-    pages: &[u32],
-    command: &mut [u8],
     sink: &mut W,
-    out: &mut [u8],
-) -> io::Result<Case> {
-    let mut walk = walk;
-    let mut turn = 0;
-    while turn < line.len() {
-        turn += 1;
-        if walk.from == line.len() {
-            return Ok(walk.case);
+    out: &mut Transcript<'_>,
+) -> io::Result<()> {
+    let mut from = at;
+    for _ in 0..line.len() {
+        if from == line.len() {
+            return Ok(());
         }
-        walk = told_word(walk, line, bytes, firmware, pages, command, sink, out)?;
+        let Some(told) = told::next(line, from, bytes) else {
+            return Ok(());
+        };
+        from = told.end;
+        obey(case, told.word, sink, out)?;
     }
-    Ok(walk.case)
-}
-
-fn told_word<W: Write>(
-    walk: Walk,
-    line: &[u8],
-    bytes: &mut [u8],
-    firmware: &[u8],
-    pages: &[u32],
-    command: &mut [u8],
-    sink: &mut W,
-    out: &mut [u8],
-) -> io::Result<Walk> {
-    let told = told::next(line, walk.from, bytes);
-    let word = told.word;
-    let case = obeyed(walk.case, word, bytes, firmware, pages, command, sink, out)?;
-    Ok(Walk {
-        case,
-        from: told.end,
-    })
-}
-
-// A call, and its line.
-fn called<W: Write>(
-    case: Case,
-    event: Event,
-    bytes: &[u8],
-    firmware: &[u8],
-    pages: &[u32],
-    command: &mut [u8],
-    sink: &mut W,
-    out: &mut [u8],
-) -> io::Result<Case> {
-    let case = case::tell(case, event, bytes, firmware, pages, command);
-    case::write(case, firmware, command, sink, out)
+    Ok(())
 }
 
 // What a word does.
-fn obeyed<W: Write>(
-    case: Case,
-    word: Word,
-    bytes: &[u8],
-    firmware: &[u8],
-    pages: &[u32],
-    command: &mut [u8],
+fn obey<W: Write>(
+    case: &mut Case<'_>,
+    word: Word<'_>,
     sink: &mut W,
-    out: &mut [u8],
-) -> io::Result<Case> {
+    out: &mut Transcript<'_>,
+) -> io::Result<()> {
     match word {
-        Word::Bad => Ok(case),
-        Word::Call(event) => called(case, event, bytes, firmware, pages, command, sink, out),
-        Word::Lend(loan) => Ok(case.lending(loan)),
-        Word::Auto(each) => auto::shown(case, each, firmware, pages, command, sink, out),
-        Word::Quiet(each) => auto::quiet(case, each, firmware, pages, command, sink, out),
-        Word::Rounds(n) => auto::rounds(case, n, firmware, pages, command, sink, out),
+        Word::Call(event) => {
+            case.tell(event);
+            case.write(sink, out)
+        }
+        Word::Lend(loan) => {
+            case.lend(loan);
+            Ok(())
+        }
+        Word::Auto { each, quiet } => auto::auto(case, each, quiet, sink, out),
+        Word::Rounds(n) => auto::rounds(case, n, sink, out),
     }
 }

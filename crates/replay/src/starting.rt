@@ -1,94 +1,56 @@
 // What a download is started from: the words that `begin` and `session` have first, and what they mean.
 use cases::words;
-use cases::words::{Amount, Found};
+use cases::words::Amount;
 use functional_descriptor::FunctionalDescriptor;
 use ground::Version;
 use protocol::DfuProtocol;
-use start::{DfuSansIo, Override};
+use start::DfuSansIo;
 
-// Where a download goes.
-#[derive(Clone, Copy)]
+// Where a download goes, and where the next word starts.
+#[derive(Clone, Copy, Debug, PartialEq, Eq)]
 pub struct Target {
-    pub dfuse: bool,
-    pub address: u32,
-    pub instead: Override,
+    pub protocol: DfuProtocol,
+    pub instead: Option<u32>,
+    pub end: usize,
 }
 
-// A target, and where the next word starts.
-#[derive(Clone, Copy)]
-pub enum Targeted {
-    Bad,
-    Read { target: Target, end: usize },
+// A number of four bytes with a space after it.
+fn word_at(line: &[u8], at: usize) -> Option<(u32, usize)> {
+    let Amount { value, end } = words::number(line, at, u64::from(u32::MAX))?;
+    Some((u32::try_from(value).ok()?, end))
 }
 
-// A number of two bytes; the reader's limit lets no larger one through.
-pub fn short(x: u64) -> u16 {
-    if x < 65536 { x as u16 } else { 0 }
-}
-
-// A number of four bytes, by the reader's limit too.
-pub fn long(x: u64) -> u32 {
-    if x < 4294967296 { x as u32 } else { 0 }
-}
-
-// `KIND ADDRESS OVERRIDE`
-pub fn target_at(line: &[u8], at: usize) -> Targeted {
-    let plain = words::past(line, at, b"plain ");
-    match plain {
-        Found::At(end) => address_at(line, end, false),
-        Found::Nothing => {
-            let dfuse = words::past(line, at, b"dfuse ");
-            match dfuse {
-                Found::At(end) => address_at(line, end, true),
-                Found::Nothing => Targeted::Bad,
-            }
-        }
+// `KIND ADDRESS`: plain DFU's address is read, and means nothing.
+fn protocol_at(line: &[u8], at: usize) -> Option<(DfuProtocol, usize)> {
+    if let Some(from) = words::past(line, at, b"plain ") {
+        let (_, end) = word_at(line, from)?;
+        return Some((DfuProtocol::Dfu, end));
     }
+    let (address, end) = word_at(line, words::past(line, at, b"dfuse ")?)?;
+    Some((DfuProtocol::Dfuse { address }, end))
 }
 
-// `ADDRESS OVERRIDE`
-fn address_at(line: &[u8], at: usize, dfuse: bool) -> Targeted {
-    let read = words::number(line, at, 4294967295);
-    match read {
-        Amount::Bad => Targeted::Bad,
-        Amount::Read { value, end } => instead_at(line, end, dfuse, long(value)),
+// `KIND ADDRESS OVERRIDE`, the last a hyphen or an address
+pub fn target_at(line: &[u8], at: usize) -> Option<Target> {
+    let (protocol, from) = protocol_at(line, at)?;
+    if let Some(end) = words::past(line, from, b"- ") {
+        return Some(Target {
+            protocol,
+            instead: None,
+            end,
+        });
     }
+    let (address, end) = word_at(line, from)?;
+    Some(Target {
+        protocol,
+        instead: Some(address),
+        end,
+    })
 }
 
-// `OVERRIDE`: a hyphen, or an address.
-fn instead_at(line: &[u8], at: usize, dfuse: bool, address: u32) -> Targeted {
-    let hyphen = words::past(line, at, b"- ");
-    match hyphen {
-        Found::At(end) => {
-            let instead = Override::Nothing;
-            let target = Target {
-                dfuse,
-                address,
-                instead,
-            };
-            Targeted::Read { target, end }
-        }
-        Found::Nothing => {
-            let read = words::number(line, at, 4294967295);
-            match read {
-                Amount::Bad => Targeted::Bad,
-                Amount::Read { value, end } => {
-                    let instead = Override::Address(long(value));
-                    let target = Target {
-                        dfuse,
-                        address,
-                        instead,
-                    };
-                    Targeted::Read { target, end }
-                }
-            }
-        }
-    }
-}
-
-// The descriptor of a device with a transfer size and two of the flags.
-fn descriptor(size: u16, tolerant: bool, detach: bool) -> FunctionalDescriptor {
-    FunctionalDescriptor {
+// What sessions with a target are started from, for a device with a transfer size and two of the flags.
+pub fn sans_io(target: Target, size: u16, tolerant: bool, detach: bool) -> DfuSansIo {
+    let io = DfuSansIo::new(FunctionalDescriptor {
         can_download: false,
         can_upload: false,
         manifestation_tolerant: tolerant,
@@ -96,25 +58,9 @@ fn descriptor(size: u16, tolerant: bool, detach: bool) -> FunctionalDescriptor {
         detach_timeout: 0,
         transfer_size: size,
         dfu_version: Version(1, 1),
+    });
+    match target.instead {
+        None => io,
+        Some(address) => io.set_address(address),
     }
-}
-
-// What sessions with a target are started from.
-pub fn sans_io(target: Target, size: u16, tolerant: bool, detach: bool) -> DfuSansIo {
-    let io = DfuSansIo::new(descriptor(size, tolerant, detach));
-    let instead = target.instead;
-    match instead {
-        Override::Nothing => io,
-        Override::Address(address) => io.set_address(address),
-    }
-}
-
-// The protocol that a target is reached by.
-pub fn protocol_of(target: Target) -> DfuProtocol {
-    if target.dfuse {
-        return DfuProtocol::Dfuse {
-            address: target.address,
-        };
-    }
-    DfuProtocol::Dfu
 }

@@ -1,13 +1,13 @@
 // The words of what the host does in a session.
 use cases::words;
-use cases::words::{Amount, Bytes};
+use cases::words::Amount;
 
 // What a call tells.
 #[derive(Clone, Copy)]
-pub enum Event {
+pub enum Event<'a> {
     Count(u64),
-    // A reply of the first so many bytes of a buffer, or one of six with a poll time and a state.
-    Reply(usize),
+    // A reply of these bytes, or one of six with a poll time and a state.
+    Reply(&'a [u8]),
     State { poll: u8, state: u8 },
     Wait,
     Reset,
@@ -15,7 +15,7 @@ pub enum Event {
 }
 
 // How much of one thing a call lends.
-#[derive(Clone, Copy)]
+#[derive(Clone, Copy, Debug, PartialEq, Eq)]
 pub enum Loan {
     Firmware(usize),
     Pages(usize),
@@ -23,45 +23,21 @@ pub enum Loan {
 }
 
 #[derive(Clone, Copy)]
-pub enum Word {
-    Bad,
-    Call(Event),
+pub enum Word<'a> {
+    Call(Event<'a>),
     // What the next call lends.
     Lend(Loan),
-    // What is awaited, with so many busy replies to each wait; quiet, and rounds of three calls.
-    Auto(u64),
-    Quiet(u64),
+    // What is awaited, with so many busy replies to each wait; quiet with the last call's line alone.
+    Auto { each: u64, quiet: bool },
+    // Rounds of three calls.
     Rounds(u64),
 }
 
 // A word, and where it ends.
 #[derive(Clone, Copy)]
-pub struct Told {
-    pub word: Word,
+pub struct Told<'a> {
+    pub word: Word<'a>,
     pub end: usize,
-}
-
-fn bad() -> Told {
-    Told {
-        word: Word::Bad,
-        end: 0,
-    }
-}
-
-fn call(event: Event, end: usize) -> Told {
-    Told {
-        word: Word::Call(event),
-        end,
-    }
-}
-
-// `rHEX`, whose bytes are put into a buffer
-fn reply_at(line: &[u8], at: usize, bytes: &mut [u8]) -> Told {
-    let read = words::hex(line, at, bytes);
-    match read {
-        Bytes::Bad => bad(),
-        Bytes::Read { len, end } => call(Event::Reply(len), end),
-    }
 }
 
 // The largest number after a letter.
@@ -75,76 +51,66 @@ fn limit(letter: u8) -> u64 {
     }
 }
 
-fn numbered(letter: u8, n: u64) -> Word {
+// A word of a letter and a number.
+fn numbered<'a>(letter: u8, n: u64) -> Option<Word<'a>> {
     match letter {
-        b'c' => Word::Call(Event::Count(n)),
-        b'L' => Word::Lend(Loan::Firmware(n as usize)),
-        b'P' => Word::Lend(Loan::Pages(n as usize)),
-        b'M' => Word::Lend(Loan::Command(n as usize)),
-        b'a' => Word::Auto(n),
-        b'q' => Word::Quiet(n),
-        b's' => Word::Rounds(n),
-        _ => Word::Bad,
+        b'c' => Some(Word::Call(Event::Count(n))),
+        b'L' => Some(Word::Lend(Loan::Firmware(n as usize))),
+        b'P' => Some(Word::Lend(Loan::Pages(n as usize))),
+        b'M' => Some(Word::Lend(Loan::Command(n as usize))),
+        b'a' | b'q' => Some(Word::Auto {
+            each: n,
+            quiet: letter == b'q',
+        }),
+        b's' => Some(Word::Rounds(n)),
+        _ => None,
     }
 }
 
-// A word of a letter and a number, from its number on
-fn number_at(letter: u8, line: &[u8], at: usize) -> Told {
-    let read = words::digits(line, at, limit(letter));
-    match read {
-        Amount::Bad => bad(),
-        Amount::Read { value, end } => {
-            let word = numbered(letter, value);
-            Told { word, end }
-        }
-    }
+// `rHEX`, whose bytes are put into a buffer
+fn reply_at<'a>(line: &[u8], at: usize, bytes: &'a mut [u8]) -> Option<Told<'a>> {
+    let read = words::hex(line, at, bytes)?;
+    Some(Told {
+        word: Word::Call(Event::Reply(words::first(bytes, read.len))),
+        end: read.end,
+    })
+}
+
+fn number_at<'a>(letter: u8, line: &[u8], at: usize) -> Option<Told<'a>> {
+    let Amount { value, end } = words::digits(line, at, limit(letter))?;
+    let word = numbered(letter, value)?;
+    Some(Told { word, end })
 }
 
 // The word after a space.
-pub fn next(line: &[u8], at: usize, bytes: &mut [u8]) -> Told {
-    if line.len() <= at {
-        return bad();
-    }
-    if line[at] != b' ' {
-        return bad();
-    }
-    let first = at + 1;
-    if line.len() <= first {
-        return bad();
-    }
-    let letter = line[first];
-    let rest = first + 1;
-    match letter {
-        b'w' => call(Event::Wait, rest),
-        b'z' => call(Event::Reset, rest),
-        b'f' => call(Event::Failure, rest),
-        b'r' => reply_at(line, rest, bytes),
-        _ => number_at(letter, line, rest),
-    }
+pub fn next<'a>(line: &[u8], at: usize, bytes: &'a mut [u8]) -> Option<Told<'a>> {
+    let first = words::past(line, at, b" ")?;
+    let letter = *line.get(first)?;
+    let end = first + 1;
+    let event = match letter {
+        b'w' => Event::Wait,
+        b'z' => Event::Reset,
+        b'f' => Event::Failure,
+        b'r' => return reply_at(line, end, bytes),
+        _ => return number_at(letter, line, end),
+    };
+    Some(Told {
+        word: Word::Call(event),
+        end,
+    })
 }
 
-fn is_bad(word: Word) -> bool {
-    match word {
-        Word::Bad => true,
-        _ => false,
-    }
-}
-
-// Whether all that follows a place are words. Each has more than a byte, so that the turns are enough.
+// Whether all that follows a place are words, before one of them does anything. Each has more than a byte, so that the turns are enough.
 pub fn are_words(line: &[u8], at: usize, bytes: &mut [u8]) -> bool {
     let mut from = at;
-    let mut turn = 0;
-    while turn < line.len() {
+    for _ in 0..line.len() {
         if from == line.len() {
             return true;
         }
-        let told = next(line, from, bytes);
-        let word = told.word;
-        if is_bad(word) {
+        let Some(told) = next(line, from, bytes) else {
             return false;
-        }
+        };
         from = told.end;
-        turn += 1;
     }
     false
 }

@@ -1,12 +1,16 @@
 // What a session says, in words.
 use crate::firmware;
-use cases::output;
+use cases::output::Transcript;
+use ground::Answer;
 use machine::Ask;
 use session::Step;
 use std::io;
 use std::io::Write;
-use wire::{Command, Request};
+use wire::{Command, Control, Request};
 use work::End;
+
+// What a command byte holds that nothing was put into.
+pub const UNTOUCHED: u8 = 238;
 
 // The words of what is said: a write's data is given, and the firmware's length.
 pub fn words<W: Write>(
@@ -14,28 +18,28 @@ pub fn words<W: Write>(
     data: &[u8],
     length: usize,
     sink: &mut W,
-    out: &mut [u8],
-    at: usize,
-) -> io::Result<usize> {
+    out: &mut Transcript<'_>,
+) -> io::Result<()> {
     match says {
-        Ask::Transfer(request) => transfer(request, data, length, sink, out, at),
-        Ask::Wait(ms) => wait(ms as u64, sink, out, at),
-        Ask::Reset => output::text(sink, out, at, b" reset"),
-        Ask::Finished(end) => finished(end, sink, out, at),
-        Ask::Refused(e) => output::refused(sink, out, at, e.said()),
+        Ask::Transfer(request) => transfer(request, data, length, sink, out),
+        Ask::Wait(ms) => {
+            out.text(sink, b" wait")?;
+            out.value(sink, u64::from(ms))
+        }
+        Ask::Reset => out.text(sink, b" reset"),
+        Ask::Finished(End::Stays) => out.text(sink, b" finished stays"),
+        Ask::Finished(End::Reset) => out.text(sink, b" finished reset"),
+        Ask::Refused(e) => out.refused(sink, e.said()),
     }
 }
 
-fn wait<W: Write>(ms: u64, sink: &mut W, out: &mut [u8], at: usize) -> io::Result<usize> {
-    let at = output::text(sink, out, at, b" wait")?;
-    output::value(sink, out, at, ms)
-}
-
-fn finished<W: Write>(end: End, sink: &mut W, out: &mut [u8], at: usize) -> io::Result<usize> {
-    match end {
-        End::Stays => output::text(sink, out, at, b" finished stays"),
-        End::Reset => output::text(sink, out, at, b" finished reset"),
-    }
+// The type, request and value of a transfer.
+fn head(c: Control) -> [u64; 3] {
+    [
+        u64::from(c.request_type),
+        u64::from(c.request),
+        u64::from(c.value),
+    ]
 }
 
 fn transfer<W: Write>(
@@ -43,33 +47,17 @@ fn transfer<W: Write>(
     data: &[u8],
     length: usize,
     sink: &mut W,
-    out: &mut [u8],
-    at: usize,
-) -> io::Result<usize> {
+    out: &mut Transcript<'_>,
+) -> io::Result<()> {
     let c = request.control();
-    let head = [c.request_type as u64, c.request as u64, c.value as u64];
     if 0 < c.takes {
-        return read(head, c.takes as u64, sink, out, at);
+        out.text(sink, b" read")?;
+        out.values(sink, &head(c))?;
+        return out.value(sink, u64::from(c.takes));
     }
-    let at = write(head, sink, out, at)?;
-    carried(request, data, length, sink, out, at)
-}
-
-fn read<W: Write>(
-    head: [u64; 3],
-    takes: u64,
-    sink: &mut W,
-    out: &mut [u8],
-    at: usize,
-) -> io::Result<usize> {
-    let at = output::text(sink, out, at, b" read")?;
-    let at = output::values(sink, out, at, &head)?;
-    output::value(sink, out, at, takes)
-}
-
-fn write<W: Write>(head: [u64; 3], sink: &mut W, out: &mut [u8], at: usize) -> io::Result<usize> {
-    let at = output::text(sink, out, at, b" write")?;
-    output::values(sink, out, at, &head)
+    out.text(sink, b" write")?;
+    out.values(sink, &head(c))?;
+    carried(request, data, length, sink, out)
 }
 
 // What a write carries.
@@ -78,44 +66,24 @@ fn carried<W: Write>(
     data: &[u8],
     length: usize,
     sink: &mut W,
-    out: &mut [u8],
-    at: usize,
-) -> io::Result<usize> {
+    out: &mut Transcript<'_>,
+) -> io::Result<()> {
     match request {
-        Request::GetStatus => Ok(at),
-        Request::ClearStatus => Ok(at),
-        Request::Command(command) => match command {
-            Command::Erase(_) => command_bytes(data, sink, out, at),
-            Command::SetAddress(_) => command_bytes(data, sink, out, at),
-            Command::Block {
-                number: _,
-                place,
-                len,
-            } => part(place as u64, len as u64, sink, out, at),
-            Command::Empty { number: _ } => part(length as u64, 0, sink, out, at),
-        },
+        Request::GetStatus | Request::ClearStatus => Ok(()),
+        Request::Command(Command::Erase(_) | Command::SetAddress(_)) => {
+            out.text(sink, b" command")?;
+            out.hex(sink, data)
+        }
+        Request::Command(Command::Block { place, len, .. }) => {
+            part(u64::from(place), u64::from(len), sink, out)
+        }
+        Request::Command(Command::Empty { .. }) => part(length as u64, 0, sink, out),
     }
 }
 
-fn command_bytes<W: Write>(
-    data: &[u8],
-    sink: &mut W,
-    out: &mut [u8],
-    at: usize,
-) -> io::Result<usize> {
-    let at = output::text(sink, out, at, b" command")?;
-    output::hex(sink, out, at, data)
-}
-
-fn part<W: Write>(
-    place: u64,
-    len: u64,
-    sink: &mut W,
-    out: &mut [u8],
-    at: usize,
-) -> io::Result<usize> {
-    let at = output::text(sink, out, at, b" firmware")?;
-    output::values(sink, out, at, &[place, len])
+fn part<W: Write>(place: u64, len: u64, sink: &mut W, out: &mut Transcript<'_>) -> io::Result<()> {
+    out.text(sink, b" firmware")?;
+    out.values(sink, &[place, len])
 }
 
 // Whether the data is what is said to be written. A call that was refused leaves a session whose request may still be to be sent.
@@ -123,28 +91,21 @@ fn is_right(says: Ask, data: &[u8]) -> bool {
     match says {
         Ask::Transfer(request) => is_carried(request, data),
         Ask::Refused(_) => true,
-        _ => data.len() == 0,
+        _ => data.is_empty(),
     }
 }
 
 // As long as the request says, and of a block the bytes of the rule.
 fn is_carried(request: Request, data: &[u8]) -> bool {
-    let c = request.control();
-    if data.len() != c.carries as usize {
+    if data.len() != request.control().carries as usize {
         return false;
     }
-    let Request::Command(command) = request else {
-        return true;
-    };
-    let Command::Block {
-        number: _,
-        place,
-        len: _,
-    } = command
-    else {
-        return true;
-    };
-    firmware::follows(data, place as usize)
+    match request {
+        Request::Command(Command::Block { place, .. }) => {
+            firmware::follows(data, place as usize)
+        }
+        _ => true,
+    }
 }
 
 // The end of a session's line: the transfers spent, and the command bytes that were lent.
@@ -152,32 +113,29 @@ pub fn line_end<W: Write>(
     spent: u64,
     command: &[u8],
     sink: &mut W,
-    out: &mut [u8],
-    at: usize,
-) -> io::Result<usize> {
-    let at = output::text(sink, out, at, b" |")?;
-    let at = output::value(sink, out, at, spent)?;
-    output::hex(sink, out, at, command)
+    out: &mut Transcript<'_>,
+) -> io::Result<()> {
+    out.text(sink, b" |")?;
+    out.value(sink, spent)?;
+    out.hex(sink, command)
 }
 
 // The line of a step whose call was lent a firmware and command bytes.
-pub fn line<'a, W: Write>(
+pub fn line<W: Write>(
     step: Step,
     spent: u64,
-    firmware: &'a [u8],
-    command: &'a [u8],
+    firmware: &[u8],
+    command: &[u8],
     sink: &mut W,
-    out: &mut [u8],
-    at: usize,
-) -> io::Result<usize> {
+    out: &mut Transcript<'_>,
+) -> io::Result<()> {
     let session = step.next;
-    let says = step.says;
     let data = session.data(firmware, command);
-    let at = output::text(sink, out, at, b"session")?;
-    let at = words(says, data, firmware.len(), sink, out, at)?;
-    let at = line_end(spent, command, sink, out, at)?;
-    if is_right(says, data) {
-        return output::line_end(sink, out, at);
+    out.text(sink, b"session")?;
+    words(step.says, data, firmware.len(), sink, out)?;
+    line_end(spent, command, sink, out)?;
+    if is_right(step.says, data) {
+        return out.line_end(sink);
     }
-    output::text(sink, out, at, b" wrong-data\n")
+    out.text(sink, b" wrong-data\n")
 }

@@ -1,5 +1,5 @@
 -- A call with what is lent to it, and the data of its request: document 01, 'One session, step by step'.
-use Rattle.std.specs.Prelude.{ℕ, Bool, true, false, List, [], length, ◌==◌, nat_lt}
+use Rattle.std.specs.Prelude.{ℕ, Bool, true, false, List, [], length, ◌==◌, nat_lt, Result, Ok, Err}
 use Rattle.ground.specs.Pick.{pick}
 use Rattle.wire.specs.Wire.{filled_for, request_data}
 use Rattle.work.specs.declared.Setup.{Setup}
@@ -10,7 +10,6 @@ use Rattle.machine.specs.Machine.{asks_at, liveb}
 use Rattle.session.specs.declared.Session.{Session}
 use Rattle.session.specs.declared.Step.{Step}
 use Rattle.session.specs.Told.{Answer, told}
-use Rattle.session.specs.declared.Guard.{Guard}
 
 -- firmware and page count as at start, and 5 command bytes; plain DFU doesn't count pages
 unfoldable pub as_at_start : Setup → ℕ → ℕ → ℕ → Bool
@@ -18,13 +17,13 @@ as_at_start su firmware pages command =
     pick (firmware == su.length) (pick (nat_lt command 5) false (pick su.dfuse (pages == su.pages) true)) false
 
 -- an ended session repeats its answer; on a live one 25 is tested before all else
-unfoldable pub guard_of : Session → ℕ → ℕ → ℕ → Guard
+unfoldable pub guard_of : Session → ℕ → ℕ → ℕ → Result Unit Ask
 guard_of s firmware pages command =
-    pick (liveb s.phase) (pick (as_at_start s.setup firmware pages command) Guard.Open (Guard.Shut (Ask.Refused Error.NotAsAtStart))) (Guard.Shut (asks_at s.phase))
+    pick (liveb s.phase) (pick (as_at_start s.setup firmware pages command) (Ok tt) (Err (Ask.Refused Error.NotAsAtStart))) (Err (asks_at s.phase))
 
-abbrev pub through : Guard → Session → Step → Step
-through Guard.Open s st = st
-through (Guard.Shut ask) s st = record { next = s; says = ask }
+abbrev pub through : Result Unit Ask → Session → Step → Step
+through (Ok opened) s st = st
+through (Err ask) s st = record { next = s; says = ask }
 
 -- a call, with what is lent to it
 unfoldable pub called : ℕ → List ℕ → ℕ → Session → Answer → Step

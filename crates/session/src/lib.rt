@@ -1,14 +1,14 @@
 // A session by value, driven by told answers: synchronous.rs.
 #![tactic(auto)]
 
-pub mod lending;
-pub mod synchronous;
+mod lending;
+mod synchronous;
 
 use machine::{Ask, Phase};
 use work::{Progress, Setup};
 
 // A session: it holds its phase, and a waiting phase holds what it waits for.
-#[derive(Clone, Copy)]
+#[derive(Clone, Copy, Debug, PartialEq, Eq)]
 pub struct Session {
     pub setup: Setup,
     pub progress: Progress,
@@ -18,15 +18,8 @@ pub struct Session {
 }
 
 // What a told answer leads to: the next session, and what it says.
-#[derive(Clone, Copy)]
+#[derive(Clone, Copy, Debug, PartialEq, Eq)]
 pub struct Step {
     pub next: Session,
     pub says: Ask,
-}
-
-// Whether a call may go on, or what it is answered at once.
-#[derive(Clone, Copy)]
-pub enum Guard {
-    Open,
-    Shut(Ask),
 }

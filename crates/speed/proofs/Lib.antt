@@ -1,2 +1,3 @@
+pub mod Few
 pub mod Turns
 pub mod Pinned

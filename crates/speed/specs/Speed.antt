@@ -1,33 +1,36 @@
 -- What the exported functions answer, in one number.
-use Rattle.std.specs.Prelude.{ℕ, zero, suc, ◌+◌, ◌-◌, Bool, true, false, List, [], ◌∷◌, length, ◌==◌}
+use Rattle.std.specs.Prelude.{ℕ, zero, suc, ◌+◌, ◌-◌, true, false, List, [], ◌∷◌, length, Result, Ok, Err}
 use Rattle.ground.specs.Pick.{pick}
+use Rattle.ground.specs.Said.{Said}
 use Rattle.memory_layout.specs.Layout.{Done, said_error}
 use Rattle.memory_layout.specs.declared.Error.{Error}
 use Rattle.memory_layout.specs.declared.MemoryLayout.{MemoryLayout}
 use Rattle.protocol.specs.declared.DfuProtocol.{DfuProtocol}
 use Rattle.machine.specs.declared.Phase.{Phase}
-use Rattle.machine.specs.declared.Ask.{Ask}
+use Rattle.machine.specs.Machine.{endb}
 use Rattle.session.specs.Calls.{Outcome, call_of}
 use Rattle.session.specs.declared.Session.{Session}
 use Rattle.start.specs.Start.{new_io, begin_of}
 use Rattle.start.specs.declared.DfuSansIo.{DfuSansIo}
-use Rattle.start.specs.declared.Started.{Started}
+use Rattle.start.specs.declared.StartError.{StartError}
 use Rattle.plan.specs.Answers.{ideal}
 use Rattle.suffix.specs.declared.Checked.{Checked}
+use Rattle.suffix.specs.declared.Error.{Error as FileError}
 use Rattle.suffix.specs.Suffix as suffix
 
 -- 2^63 and document 01's number of the refusal
-abbrev pub refusal_of : Error → ℕ
-refusal_of e = 9223372036854775808 + (said_error e).number
+abbrev pub refusal_of : Said → ℕ
+refusal_of s = 9223372036854775808 + s.number
 
 -- how many bytes of a file are firmware, or the refusal
-abbrev pub verified_of : Checked → ℕ
-verified_of c = pick ((suffix.said_of c.suffix).number == 0) c.firmware (9223372036854775808 + (suffix.said_of c.suffix).number)
+abbrev pub verified_of : Result Checked FileError → ℕ
+verified_of (Ok c) = c.firmware
+verified_of (Err e) = refusal_of (suffix.said_error e)
 
 -- how many pages, or the refusal
-abbrev pub layout_number : MemoryLayout → ℕ
-layout_number (MemoryLayout.Pages n) = n
-layout_number (MemoryLayout.Refused e) = refusal_of e
+abbrev pub layout_number : Result MemoryLayout Error → ℕ
+layout_number (Ok layout) = layout.pages
+layout_number (Err e) = refusal_of (said_error e)
 
 -- a number, and the store after the call
 pub record Answered : Type 0 where
@@ -40,14 +43,6 @@ answered n store = record { number = n; store = store }
 -- what a layout's reading comes to
 abbrev pub answered_of : Done → Answered
 answered_of d = answered (layout_number d.answer) d.store
-
--- whether a finish or a refusal was said
-abbrev pub endb : Ask → Bool
-endb (Ask.Transfer q) = false
-endb (Ask.Wait ms) = false
-endb Ask.Reset = false
-endb (Ask.Finished e) = true
-endb (Ask.Refused e) = true
 
 -- the transfers that a finished session has asked: what is gone of its budget; 0 for any other
 abbrev pub asked_at : Phase → ℕ → ℕ
@@ -87,9 +82,9 @@ device_of size =
     })
 
 -- the session that was begun is run; none if start refuses
-abbrev pub run_of : List ℕ → List ℕ → Started → ℕ
-run_of fw ps (Started.Session s) = ran_of fw ps 1000000 (0 ∷ 0 ∷ 0 ∷ 0 ∷ 0 ∷ []) s
-run_of fw ps (Started.Refused e) = 0
+abbrev pub run_of : List ℕ → List ℕ → Result Session StartError → ℕ
+run_of fw ps (Ok s) = ran_of fw ps 1000000 (0 ∷ 0 ∷ 0 ∷ 0 ∷ 0 ∷ []) s
+run_of fw ps (Err e) = 0
 
 abbrev pub session_of : List ℕ → List ℕ → ℕ → ℕ → ℕ
 session_of fw ps address size = run_of fw ps (begin_of (device_of size) (DfuProtocol.Dfuse address) (length fw) (length ps) 18446744073709551615)

@@ -1,10 +1,11 @@
 -- How a session starts: document 01, 'One session, step by step', its paragraph on start.
-use Rattle.std.specs.Prelude.{ℕ, zero, suc, Bool, true, false, [], ◌==◌, nat_lt, nat_le}
+use Rattle.std.specs.Prelude.{ℕ, zero, suc, Bool, true, false, [], ◌==◌, nat_lt, nat_le, Option, Some, None, unwrap_or, Result, Ok, Err}
 use Rattle.ground.specs.Pick.{pick}
-use Rattle.ground.specs.Said.{Said, says}
+use Rattle.ground.specs.Said.{Said, says, said_result}
 use Rattle.functional_descriptor.specs.declared.FunctionalDescriptor.{FunctionalDescriptor}
 use Rattle.memory_layout.specs.Layout.{max_pages}
 use Rattle.protocol.specs.declared.DfuProtocol.{DfuProtocol}
+use Rattle.protocol.specs.Interface.{dfuseb}
 use Rattle.work.specs.declared.Setup.{Setup}
 use Rattle.work.specs.declared.Progress.{Progress}
 use Rattle.work.specs.Work.{limit, end_of, block_count}
@@ -12,26 +13,20 @@ use Rattle.work.specs.declared.Stage.{Stage}
 use Rattle.work.specs.declared.End.{End}
 use Rattle.machine.specs.declared.Phase.{Phase}
 use Rattle.session.specs.Told.{mk}
+use Rattle.session.specs.declared.Session.{Session}
 use Rattle.start.specs.declared.DfuSansIo.{DfuSansIo}
-use Rattle.start.specs.declared.Override.{Override}
 use Rattle.start.specs.declared.StartError.{StartError}
-use Rattle.start.specs.declared.Started.{Started}
 
 abbrev pub new_io : FunctionalDescriptor → DfuSansIo
-new_io d = record { descriptor = d; override_address = Override.Nothing }
+new_io d = record { descriptor = d; override_address = None }
 
 abbrev pub with_address : DfuSansIo → ℕ → DfuSansIo
-with_address io a = record { descriptor = io.descriptor; override_address = Override.Address a }
-
-abbrev pub dfuseb : DfuProtocol → Bool
-dfuseb DfuProtocol.Dfu = false
-dfuseb (DfuProtocol.Dfuse a) = true
+with_address io a = record { descriptor = io.descriptor; override_address = Some a }
 
 -- DfuSe's address is the override if there is one; plain DFU ignores both
-abbrev pub target_of : DfuProtocol → Override → ℕ
+abbrev pub target_of : DfuProtocol → Option ℕ → ℕ
 target_of DfuProtocol.Dfu o = 0
-target_of (DfuProtocol.Dfuse a) Override.Nothing = a
-target_of (DfuProtocol.Dfuse a) (Override.Address b) = b
+target_of (DfuProtocol.Dfuse a) o = unwrap_or o a
 
 abbrev pub setup_of : DfuSansIo → DfuProtocol → ℕ → ℕ → Setup
 setup_of io p length pages = record {
@@ -71,21 +66,21 @@ abbrev pub manyb : Bool → ℕ → ℕ → Bool
 manyb dfuse length size = pick dfuse (nat_lt max_blocks (block_count length size)) false
 
 -- budget 0 is refused; the first GETSTATUS spends 1
-abbrev pub starting : Setup → ℕ → Started
-starting su zero = Started.Refused StartError.BudgetSpent
-starting su (suc l) = Started.Session (mk su (fresh su) l Phase.First)
+abbrev pub starting : Setup → ℕ → Result Session StartError
+starting su zero = Err StartError.BudgetSpent
+starting su (suc l) = Ok (mk su (fresh su) l Phase.First)
 
-unfoldable pub begun_of : Setup → ℕ → Started
+unfoldable pub begun_of : Setup → ℕ → Result Session StartError
 begun_of su budget =
-    pick (nothingb su) (Started.Session (mk su (fresh su) budget (Phase.Finished End.Stays)))
-    (pick (beyondb su) (Started.Refused StartError.NoSpaceLeft)
-    (pick (manyb su.dfuse su.length su.size) (Started.Refused StartError.TooManyBlocks) (starting su budget)))
+    pick (nothingb su) (Ok (mk su (fresh su) budget (Phase.Finished End.Stays)))
+    (pick (beyondb su) (Err StartError.NoSpaceLeft)
+    (pick (manyb su.dfuse su.length su.size) (Err StartError.TooManyBlocks) (starting su budget)))
 
 -- in this order: too long, too many pages, finished at once, no space, too many blocks, budget
-unfoldable pub begin_of : DfuSansIo → DfuProtocol → ℕ → ℕ → ℕ → Started
+unfoldable pub begin_of : DfuSansIo → DfuProtocol → ℕ → ℕ → ℕ → Result Session StartError
 begin_of io p length pages budget =
-    pick (nat_lt 4294967295 length) (Started.Refused StartError.OutOfCapabilities)
-    (pick (overb (dfuseb p) pages) (Started.Refused StartError.TooManyPages) (begun_of (setup_of io p length pages) budget))
+    pick (nat_lt 4294967295 length) (Err StartError.OutOfCapabilities)
+    (pick (overb (dfuseb p) pages) (Err StartError.TooManyPages) (begun_of (setup_of io p length pages) budget))
 
 -- document 01's number and values for each answer
 abbrev pub said_start : StartError → Said
@@ -95,6 +90,6 @@ said_start StartError.NoSpaceLeft = says 5 []
 said_start StartError.TooManyBlocks = says 29 []
 said_start StartError.BudgetSpent = says 23 []
 
-abbrev pub said_started : Started → Said
-said_started (Started.Session s) = says 0 []
-said_started (Started.Refused e) = said_start e
+-- a session says nothing yet
+abbrev pub said_started : Result Session StartError → Said
+said_started r = said_result (λ s. says 0 []) said_start r

@@ -2,93 +2,57 @@
 #![tactic(auto)]
 
 ghost use Rattle.std.specs.Prelude.{◌≡◌, length};
-ghost use Rattle.start.specs.Start.{new_io, with_address, dfuseb, target_of, fresh, nothingb, beyondb, overb, manyb, begun_of, begin_of, said_start, said_started};
+ghost use Rattle.start.specs.Start.{new_io, with_address, target_of, fresh, nothingb, beyondb, overb, manyb, begun_of, begin_of, said_start, said_started};
 ghost use Rattle.ground.specs.Said.{report_of};
 ghost use Rattle.protocol.specs.Interface.{detach_request};
 
 use functional_descriptor::FunctionalDescriptor;
-use ground::Report;
+use ground::{Answer, Report};
 use machine::Phase;
 use memory_layout::MAX_PAGES;
 use protocol::{DfuProtocol, UsbWriteControl};
 use session::Session;
+use std::fmt;
 use work::{End, Progress, Setup, Stage};
-
-// An address in place of the interface string's, if there is one.
-#[derive(Clone, Copy)]
-pub enum Override {
-    Nothing,
-    Address(u32),
-}
 
 // The most blocks of a DfuSe firmware: their numbers are 2 to 65,534, and the empty block's is 65,535.
 pub const MAX_BLOCKS: u64 = 65533;
 
 // What sessions are started from.
-#[derive(Clone, Copy)]
+#[derive(Clone, Copy, Debug, PartialEq, Eq)]
 pub struct DfuSansIo {
     pub descriptor: FunctionalDescriptor,
-    pub override_address: Override,
+    // An address in place of the interface string's.
+    pub override_address: Option<u32>,
 }
 
 // Why no session is started.
-#[derive(Clone, Copy)]
+#[derive(Clone, Copy, Debug, PartialEq, Eq)]
 pub enum StartError {
-    // 1: the firmware has 2^32 bytes or more
+    // Refusal 1: the firmware has 2^32 bytes or more
     OutOfCapabilities,
-    // 22
+    // Refusal 22
     TooManyPages,
-    // 5: the target would reach 2^32
+    // Refusal 5: the target would reach 2^32
     NoSpaceLeft,
-    // 29: DfuSe has no number for the last block
+    // Refusal 29: DfuSe has no number for the last block
     TooManyBlocks,
-    // 23
+    // Refusal 23
     BudgetSpent,
-}
-
-#[derive(Clone, Copy)]
-pub enum Started {
-    Session(Session),
-    Refused(StartError),
-}
-
-// Where DfuSe writes: the override, or the string's address.
-fn target(protocol: DfuProtocol, other: Override) -> u32
-    ensures { result ≡ target_of protocol other }
-{
-    match protocol {
-        DfuProtocol::Dfu => 0,
-        DfuProtocol::Dfuse { address } => match other {
-            Override::Nothing => address,
-            Override::Address(instead) => instead,
-        },
-    }
-}
-
-fn is_dfuse(protocol: DfuProtocol) -> bool
-    ensures { result ≡ dfuseb protocol }
-{
-    match protocol {
-        DfuProtocol::Dfu => false,
-        DfuProtocol::Dfuse { address: _ } => true,
-    }
 }
 
 // The progress of a session that has requested nothing yet.
 fn unstarted(setup: Setup) -> Progress
     ensures { result ≡ fresh setup }
 {
-    if setup.dfuse {
-        return Progress {
-            stage: Stage::Erasing,
-            erased: setup.address,
-            page: 0,
-            accepted: 0,
-        };
-    }
+    let (stage, erased) = if setup.dfuse {
+        (Stage::Erasing, setup.address)
+    } else {
+        (Stage::Writing, 0)
+    };
     Progress {
-        stage: Stage::Writing,
-        erased: 0,
+        stage,
+        erased,
         page: 0,
         accepted: 0,
     }
@@ -98,49 +62,38 @@ fn unstarted(setup: Setup) -> Progress
 fn is_nothing(setup: Setup) -> bool
     ensures { result ≡ nothingb setup }
 {
-    if setup.length == 0 {
-        return true;
-    }
-    setup.size == 0
+    setup.length == 0 || setup.size == 0
 }
 
 // A DfuSe target that would reach 2^32.
 fn is_beyond(setup: Setup) -> bool
     ensures { result ≡ beyondb setup }
 {
-    if setup.dfuse {
-        return 4294967296 <= (setup.address as u64) + (setup.length as u64);
-    }
-    false
+    setup.dfuse && setup.address.checked_add(setup.length).is_none()
 }
 
 // More pages than DfuSe may have; plain DFU doesn't count them.
-fn is_over(dfuse: bool, pages: usize) -> bool
+pub fn is_over(dfuse: bool, pages: usize) -> bool
     ensures { result ≡ overb dfuse pages }
 {
-    if dfuse {
-        return MAX_PAGES < pages;
-    }
-    false
+    dfuse && MAX_PAGES < pages
 }
 
 // More blocks than DfuSe can number; plain DFU's numbers begin again.
 pub fn is_many(dfuse: bool, length: u32, size: u16) -> bool
     ensures { result ≡ manyb dfuse length size }
 {
-    if dfuse {
-        return MAX_BLOCKS < work::blocks(length, size);
-    }
-    false
+    dfuse && MAX_BLOCKS < work::blocks(length, size)
 }
 
 // A session whose lengths were tested: finished at once, refused for its end, its blocks or its budget, or begun.
-fn begun(setup: Setup, budget: u64) -> Started
+#[tactic(auto, using(crate::proofs::Paid::unpaid, crate::proofs::Paid::paid), unfolding(crate::specs::Start::begun_of))]
+fn begun(setup: Setup, budget: u64) -> Result<Session, StartError>
     ensures { result ≡ begun_of setup budget }
 {
     let progress = unstarted(setup);
     if is_nothing(setup) {
-        return Started::Session(Session {
+        return Ok(Session {
             setup,
             progress,
             left: budget,
@@ -148,18 +101,16 @@ fn begun(setup: Setup, budget: u64) -> Started
         });
     }
     if is_beyond(setup) {
-        return Started::Refused(StartError::NoSpaceLeft);
+        return Err(StartError::NoSpaceLeft);
     }
     if is_many(setup.dfuse, setup.length, setup.size) {
-        return Started::Refused(StartError::TooManyBlocks);
+        return Err(StartError::TooManyBlocks);
     }
-    if budget == 0 {
-        return Started::Refused(StartError::BudgetSpent);
-    }
-    Started::Session(Session {
+    let left = budget.checked_sub(1).ok_or(StartError::BudgetSpent)?;
+    Ok(Session {
         setup,
         progress,
-        left: budget - 1,
+        left,
         phase: Phase::First,
     })
 }
@@ -170,7 +121,7 @@ impl DfuSansIo {
     {
         DfuSansIo {
             descriptor,
-            override_address: Override::Nothing,
+            override_address: None,
         }
     }
 
@@ -178,30 +129,43 @@ impl DfuSansIo {
     pub fn set_address(self, address: u32) -> DfuSansIo
         ensures { result ≡ with_address self address }
     {
-        let descriptor = self.descriptor;
         DfuSansIo {
-            descriptor,
-            override_address: Override::Address(address),
+            override_address: Some(address),
+            ..self
+        }
+    }
+
+    // Where DfuSe writes: the override, or the string's address.
+    fn target(self, protocol: DfuProtocol) -> u32
+        ensures { result ≡ target_of protocol self.override_address }
+    {
+        match protocol {
+            DfuProtocol::Dfu => 0,
+            DfuProtocol::Dfuse { address } => self.override_address.unwrap_or(address),
         }
     }
 
     // A session for a firmware of so many bytes and so many lent pages, or why there is none.
-    pub fn begin(self, protocol: DfuProtocol, length: u64, pages: usize, budget: u64) -> Started
+    #[tactic(auto, unfolding(crate::specs::Start::begin_of))]
+    pub fn begin(
+        self,
+        protocol: DfuProtocol,
+        length: u64,
+        pages: usize,
+        budget: u64,
+    ) -> Result<Session, StartError>
         ensures { result ≡ begin_of self protocol length pages budget }
     {
-        if 4294967295 < length {
-            return Started::Refused(StartError::OutOfCapabilities);
-        }
-        let dfuse = is_dfuse(protocol);
+        let length = u32::try_from(length).map_err(|_| StartError::OutOfCapabilities)?;
+        let dfuse = protocol.is_dfuse();
         if is_over(dfuse, pages) {
-            return Started::Refused(StartError::TooManyPages);
+            return Err(StartError::TooManyPages);
         }
         let descriptor = self.descriptor;
-        let other = self.override_address;
         let setup = Setup {
             dfuse,
-            address: target(protocol, other),
-            length: length as u32,
+            address: self.target(protocol),
+            length,
             pages,
             size: descriptor.transfer_size,
             tolerant: descriptor.manifestation_tolerant,
@@ -217,7 +181,7 @@ impl DfuSansIo {
         firmware: &[u8],
         pages: &[u32],
         budget: u64,
-    ) -> Started
+    ) -> Result<Session, StartError>
         ensures { result ≡ begin_of self protocol (length firmware.now) (length pages.now) budget }
     {
         self.begin(protocol, firmware.len() as u64, pages.len(), budget)
@@ -231,29 +195,45 @@ impl DfuSansIo {
     }
 }
 
-impl StartError {
-    // The number of the refusal.
-    pub fn said(self) -> Report
-        ensures { result ≡ report_of (said_start self) }
-    {
+impl Answer for StartError {
+    ghost tells = { said_start };
+
+    fn said(self) -> Report {
         match self {
-            StartError::OutOfCapabilities => Report::plain(1),
-            StartError::TooManyPages => Report::plain(22),
-            StartError::NoSpaceLeft => Report::plain(5),
-            StartError::TooManyBlocks => Report::plain(29),
-            StartError::BudgetSpent => Report::plain(23),
+            StartError::OutOfCapabilities => Report::of(1, []),
+            StartError::TooManyPages => Report::of(22, []),
+            StartError::NoSpaceLeft => Report::of(5, []),
+            StartError::TooManyBlocks => Report::of(29, []),
+            StartError::BudgetSpent => Report::of(23, []),
         }
     }
 }
 
-impl Started {
-    // The number of the answer.
-    pub fn said(self) -> Report
-        ensures { result ≡ report_of (said_started self) }
-    {
+// What a start says: of a session the number 0 alone.
+pub fn said(started: Result<Session, StartError>) -> Report
+    ensures { result ≡ report_of (said_started started) }
+{
+    match started {
+        Ok(_) => Report::of(0, []),
+        Err(error) => error.said(),
+    }
+}
+
+impl fmt::Display for StartError {
+    fn fmt<W: fmt::Write>(&self, f: &mut fmt::Formatter<W>) -> fmt::Result {
         match self {
-            Started::Session(_) => Report::plain(0),
-            Started::Refused(e) => e.said(),
+            StartError::OutOfCapabilities => write!(f, "the firmware has 2^32 bytes or more"),
+            StartError::TooManyPages => write!(f, "there are more than 4096 pages"),
+            StartError::NoSpaceLeft => write!(f, "the target would end at or past 2^32"),
+            StartError::TooManyBlocks => {
+                write!(
+                    f,
+                    "the firmware fills more than 65533 blocks, and DfuSe has no numbers for more: the transfer size is too small for it"
+                )
+            }
+            StartError::BudgetSpent => write!(f, "the budget is spent"),
         }
     }
 }
+
+impl std::error::Error for StartError {}

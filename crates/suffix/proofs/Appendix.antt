@@ -1,16 +1,10 @@
 -- The reader against DFU 1.1's appendix B: its fields under our names, and that nothing is read but what the appendix lays out.
 -- That all of that is read stands in AppendixRead. Assumes nothing.
-use Prim.Native.Nat.{ℕ, zero, suc, ◌+◌, ◌-◌, ◌*◌, ◌/◌, ◌%◌, ◌<◌}
-use mathlib.Core.Path.{◌≡◌, refl, sym, ap, ap₂, subst, ◌∙◌}
-use mathlib.Core.List.{List, [], ◌∷◌, ◌++◌}
-use mathlib.Core.Bool.{Bool}
-use native.Mathlib.Omega.{arith}
-use lib.ListN.{length, take, drop, get_or, drop_of_length-le, length-append, length-drop, take-append-drop}
-use lib.Seq.{drop-cons, take-append-add}
-use lib.Dec.{eqb}
+use Rattle.std.proofs.Common.{◌≡◌, ℕ, zero, suc, ◌+◌, ◌-◌, ◌*◌, ◌/◌, ◌%◌, ◌<◌, List, [], ◌∷◌, ◌++◌, Bool, eqb, length, take, drop, get_or, Result, Ok, Err, refl, sym, ap, ap₂, subst, ◌∙◌, arith, length-append, length-drop}
+use Rattle.std.proofs.Math.ListN.{drop_of_length-le, take-append-drop}
+use Rattle.std.proofs.Math.Seq.{drop-cons, take-append-add}
 use borrow.Author.Tests.{le-ltb, eqb-true}
 use Rattle.ground.specs.Pick.{pick}
-use Rattle.ground.specs.Text.{codes}
 use Rattle.ground.specs.Bytes.{little_endian_value, field, prefix, Bytes}
 use Rattle.ground.proofs.Numbers.{bytes_drop}
 use Rattle.ground.proofs.Prefix.{starts}
@@ -19,6 +13,7 @@ use Rattle.papers.specs.Crc.{crc_of}
 use Rattle.papers.specs.Suffix.{Ids, four, opening, dw_crc, file_of}
 use Rattle.suffix.specs.declared.Identities.{Identities}
 use Rattle.suffix.specs.declared.Suffix.{Suffix}
+use Rattle.suffix.specs.declared.Error.{Error}
 use Rattle.suffix.specs.Suffix.{last_of, identities_of, last_read, suffix_of, firmware_of}
 use Rattle.suffix.proofs.Tested.{read_long, part_is}
 
@@ -102,15 +97,11 @@ of_itself t n h s l =
     l
 
 -- what the tests have found where the last sixteen bytes t, after the bytes b, were read
-abbrev Found : List ℕ → List ℕ → Suffix → Type 0
-Found t b (Suffix.Read j c) = (take 3 (drop 8 t) ≡ UFD) × (get_or t 11 0 ≡ 16) × (j ≡ identities_of t) × (c ≡ field 12 4 t) × (field 12 4 t ≡ crc_of b)
-Found t b Suffix.FileTooShort = Unit
-Found t b Suffix.NoSignature = Unit
-Found t b Suffix.WrongLength = Unit
-Found t b Suffix.WrongCrc = Unit
+abbrev Found : List ℕ → List ℕ → Result Suffix Error → Type 0
+Found t b (Ok s) = (take 3 (drop 8 t) ≡ UFD) × (get_or t 11 0 ≡ 16) × (s.identities ≡ identities_of t) × (s.crc ≡ field 12 4 t) × (field 12 4 t ≡ crc_of b)
+Found t b (Err e) = Unit
 
 found : (t b : List ℕ) → Found t b (last_read t b)
-unfolding codes
 found t b =
     picked (Found t b) (prefix UFD (drop 8 t)) _ _
     (λ s. picked (Found t b) (eqb (get_or t 11 0) 16) _ _
@@ -119,15 +110,15 @@ found t b =
     (λ n. tt))
     (λ n. tt)
 
-module _ (f : List ℕ) {j : Identities} {c : ℕ} (e : suffix_of f ≡ Suffix.Read j c) where
+module _ (f : List ℕ) {s : Suffix} (e : suffix_of f ≡ Ok s) where
   abbrev ended : List ℕ
   ended = take (length f - 4) f
 
-  tests : Found (last_of f) ended (Suffix.Read j c)
+  tests : Found (last_of f) ended (Ok s)
   unfolding suffix_of
   tests =
       subst (Found (last_of f) ended)
-      (ap (λ (t : Bool). pick t Suffix.FileTooShort (last_read (last_of f) ended)) (sym (le-ltb (length f) 16 (read_long f e))) ∙ e)
+      (ap (λ (t : Bool). pick t (Err Error.FileTooShort) (last_read (last_of f) ended)) (sym (le-ltb (length f) 16 (read_long f e))) ∙ e)
       (found (last_of f) ended)
 
   -- the CRC that a file has is that of the bytes before it
@@ -135,8 +126,8 @@ module _ (f : List ℕ) {j : Identities} {c : ℕ} (e : suffix_of f ≡ Suffix.R
   stored = tests.4
 
 -- AND NOTHING ELSE IS: a file that was read is the appendix's, of its firmware and its identities, in one way
-module _ (f : List ℕ) (h : Bytes f) {j : Identities} {c : ℕ} (e : suffix_of f ≡ Suffix.Read j c) where
-  itself : last_of f ≡ opening (ids_of j) ++ four (field 12 4 (last_of f))
+module _ (f : List ℕ) (h : Bytes f) {s : Suffix} (e : suffix_of f ≡ Ok s) where
+  itself : last_of f ≡ opening (ids_of s.identities) ++ four (field 12 4 (last_of f))
   itself =
       of_itself (last_of f) (omega (arith, length-drop (length f - 16) f, read_long f e)) (bytes_drop (length f - 16) f h) (tests f e).0 (tests f e).1
       ∙ ap (λ (i : Identities). opening (ids_of i) ++ four (field 12 4 (last_of f))) (sym (tests f e).2)
@@ -144,7 +135,7 @@ module _ (f : List ℕ) (h : Bytes f) {j : Identities} {c : ℕ} (e : suffix_of 
   parted : firmware_of f ++ last_of f ≡ f
   parted = ap (λ (l : List ℕ). l ++ last_of f) (sym (part_is f e)) ∙ take-append-drop (length f - 16) f
 
-  covered : take (length f - 4) f ≡ firmware_of f ++ opening (ids_of j)
+  covered : take (length f - 4) f ≡ firmware_of f ++ opening (ids_of s.identities)
   covered =
       let l = length-append (firmware_of f) (last_of f) in
       let n : length f - 4 ≡ length (firmware_of f) + 12 = omega (arith, l, ap length parted, length-drop (length f - 16) f, read_long f e) in
@@ -152,10 +143,10 @@ module _ (f : List ℕ) (h : Bytes f) {j : Identities} {c : ℕ} (e : suffix_of 
       ∙ take-append-add (firmware_of f) (last_of f) 12
       ∙ ap (λ (l : List ℕ). firmware_of f ++ take 12 l) itself
 
-  pub only_the_appendix_crc : c ≡ dw_crc (firmware_of f) (ids_of j)
+  pub only_the_appendix_crc : s.crc ≡ dw_crc (firmware_of f) (ids_of s.identities)
   only_the_appendix_crc = (tests f e).3 ∙ stored f e ∙ ap crc_of covered
 
-  pub only_the_appendix : f ≡ file_of (firmware_of f) (ids_of j)
+  pub only_the_appendix : f ≡ file_of (firmware_of f) (ids_of s.identities)
   only_the_appendix =
       sym parted
-      ∙ ap (λ (l : List ℕ). firmware_of f ++ l) (itself ∙ ap (λ (n : ℕ). opening (ids_of j) ++ four n) (stored f e ∙ ap crc_of covered))
+      ∙ ap (λ (l : List ℕ). firmware_of f ++ l) (itself ∙ ap (λ (n : ℕ). opening (ids_of s.identities) ++ four n) (stored f e ∙ ap crc_of covered))

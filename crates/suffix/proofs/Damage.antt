@@ -1,17 +1,11 @@
 -- One damaged byte is always seen: of two files that differ in one byte alone at most one is read. Assumes nothing.
-use Prim.Native.Nat.{ℕ, suc, ◌+◌, ◌-◌, ◌<◌, ◌≤◌}
-use mathlib.Core.Path.{◌≡◌, refl, sym, ap, ap₂, ◌∙◌}
-use mathlib.Core.List.{List, [], ◌∷◌, ◌++◌}
-use mathlib.Core.Logic.{⊎_elim}
-use native.Mathlib.Omega.{arith}
-use lib.ListN.{length, take, drop, get_or, length-append, length-drop}
-use lib.Seq.{take_all, take-append-le, take-append-add, drop-append-le, drop-append-add, drop-drop, get_or-append_seam}
+use Rattle.std.proofs.Common.{◌≡◌, ℕ, suc, ◌+◌, ◌-◌, ◌<◌, ◌≤◌, List, [], ◌∷◌, ◌++◌, length, take, drop, get_or, Ok, refl, sym, ap, ap₂, ◌∙◌, ⊎_elim, arith, length-append, length-drop}
+use Rattle.std.proofs.Math.Seq.{take_all, take-append-le, take-append-add, drop-append-le, drop-append-add, drop-drop, get_or-append_seam}
 use Rattle.ground.specs.Bytes.{little_endian_value, field, Bytes}
 use Rattle.ground.proofs.Numbers.{bytes_take, bytes_drop}
 use Rattle.ground.proofs.Tests.{lt_or_ge}
 use Rattle.papers.specs.Crc.{crc_of}
 use Rattle.crc32.proofs.Damage.{byte_seen}
-use Rattle.suffix.specs.declared.Identities.{Identities}
 use Rattle.suffix.specs.Suffix.{suffix_of}
 use Rattle.suffix.specs.declared.Suffix.{Suffix}
 use Rattle.suffix.proofs.Tested.{read_long}
@@ -27,7 +21,7 @@ number_one (x ∷ xs) (y ∷ ys) n h k e =
     ap₂ (λ (z : ℕ) (zs : List ℕ). z ∷ zs) (omega (arith, h.0, k.0)) (number_one xs ys (omega arith) h.1 k.1 (omega (arith, h.0, k.0)))
 
 -- a read file's last four bytes are the CRC of those before them
-last_four : (f : List ℕ) {i : Identities} {c : ℕ} → suffix_of f ≡ Suffix.Read i c → little_endian_value (drop (length f - 4) f) ≡ crc_of (take (length f - 4) f)
+last_four : (f : List ℕ) {s : Suffix} → suffix_of f ≡ Ok s → little_endian_value (drop (length f - 4) f) ≡ crc_of (take (length f - 4) f)
 unfolding field
 last_four f e =
     let h = read_long f e in
@@ -58,7 +52,7 @@ module _ (p q : List ℕ) (hp : Bytes p) (hq : Bytes q) where
     after : (x : ℕ) → drop (length (with x) - 4) (with x) ≡ drop m q
     after x = ap (λ (k : ℕ). drop k (with x)) (place x) ∙ drop-append-add p (x ∷ q) (suc m)
 
-    covered : (a b : ℕ) → a < 256 → b < 256 → {i j : Identities} {c d : ℕ} → suffix_of (with a) ≡ Suffix.Read i c → suffix_of (with b) ≡ Suffix.Read j d → a ≡ b
+    covered : (a b : ℕ) → a < 256 → b < 256 → {s t : Suffix} → suffix_of (with a) ≡ Ok s → suffix_of (with b) ≡ Ok t → a ≡ b
     covered a b h k e f =
         byte_seen 0xFFFFFFFF p (take m q) a b (omega arith) hp (bytes_take m q hq) h k
         (ap crc_of (sym (over a))
@@ -83,7 +77,7 @@ module _ (p q : List ℕ) (hp : Bytes p) (hq : Bytes q) where
     tail : ℕ → List ℕ
     tail x = drop from p ++ (x ∷ q)
 
-    number : (x : ℕ) → {i : Identities} {c : ℕ} → suffix_of (with x) ≡ Suffix.Read i c → little_endian_value (tail x) ≡ crc_of (take from p)
+    number : (x : ℕ) → {s : Suffix} → suffix_of (with x) ≡ Ok s → little_endian_value (tail x) ≡ crc_of (take from p)
     unfolding tail
     number x e =
         ap little_endian_value (sym (ap (λ (k : ℕ). drop k (with x)) (place_in x) ∙ drop-append-le from p (x ∷ q) inside))
@@ -102,12 +96,12 @@ module _ (p q : List ℕ) (hp : Bytes p) (hq : Bytes q) where
     unfolding tail
     at x = get_or-append_seam (drop from p) x q 0
 
-    within : (a b : ℕ) → a < 256 → b < 256 → {i j : Identities} {c d : ℕ} → suffix_of (with a) ≡ Suffix.Read i c → suffix_of (with b) ≡ Suffix.Read j d → a ≡ b
+    within : (a b : ℕ) → a < 256 → b < 256 → {s t : Suffix} → suffix_of (with a) ≡ Ok s → suffix_of (with b) ≡ Ok t → a ≡ b
     within a b h k e f =
         let t = number_one (tail a) (tail b) (tail_long a ∙ sym (tail_long b)) (tail_bytes a h) (tail_bytes b k) (number a e ∙ sym (number b f)) in
         sym (at a) ∙ ap (λ (l : List ℕ). get_or l (length (drop from p)) 0) t ∙ at b
 
   -- ONE DAMAGED BYTE IS SEEN, wherever it stands: files that differ in it alone and are both read don't differ
-  pub one_byte_is_seen : (a b : ℕ) → a < 256 → b < 256 → {i j : Identities} {c d : ℕ} → suffix_of (with a) ≡ Suffix.Read i c → suffix_of (with b) ≡ Suffix.Read j d → a ≡ b
+  pub one_byte_is_seen : (a b : ℕ) → a < 256 → b < 256 → {s t : Suffix} → suffix_of (with a) ≡ Ok s → suffix_of (with b) ≡ Ok t → a ≡ b
   one_byte_is_seen a b h k e f =
       ⊎_elim (λ l. within l a b h k e f) (λ g. let n : length q ≡ length q - 4 + 4 = omega arith in covered (length q - 4) n a b h k e f) (lt_or_ge (length q) 4)

@@ -1,4 +1,3 @@
-pub mod Words
 pub mod Tested
 pub mod Appendix
 pub mod AppendixRead

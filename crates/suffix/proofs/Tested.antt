@@ -1,94 +1,82 @@
 -- The tests of a file in their order, each with what was found before it. Assumes nothing.
-use Prim.Native.Nat.{ℕ, ◌-◌, ◌<◌, ◌≤◌}
-use mathlib.Core.Path.{◌≡◌, refl, sym, ap, ◌∙◌}
-use mathlib.Core.List.{List, [], ◌∷◌}
-use mathlib.Core.Logic.{⊎_elim}
-use mathlib.Core.Bool.{Bool, true, false}
-use native.Mathlib.Omega.{arith}
-use lib.ListN.{length, take, drop, get_or}
+use Rattle.std.proofs.Common.{◌≡◌, ℕ, ◌-◌, ◌<◌, ◌≤◌, List, [], Bool, true, false, length, take, drop, get_or, Result, Ok, Err, MatchResult, refl, sym, ap, ◌∙◌, subst, ⊎_elim, arith, codes, length-drop}
+use Rattle.std.proofs.Math.Seq.{take_all}
 use borrow.Author.Tests.{lt-ltb, le-ltb, eq-eqb, ne_eqb}
-use Rattle.ground.specs.Text.{codes}
 use Rattle.ground.specs.Bytes.{field, prefix}
-use Rattle.ground.proofs.Lists.{onwards}
 use Rattle.ground.proofs.Tests.{lt_or_ge}
 use Rattle.papers.specs.Crc.{crc_of}
-use Rattle.suffix.specs.declared.Identities.{Identities}
 use Rattle.suffix.specs.declared.Suffix.{Suffix}
-use Rattle.suffix.specs.Suffix.{last_of, identities_of, suffix_of, part_by, length_by, firmware_of, checked_of}
+use Rattle.suffix.specs.declared.Checked.{Checked}
+use Rattle.suffix.specs.declared.Error.{Error}
+use Rattle.suffix.specs.Suffix.{last_of, identities_of, suffix_of, part_by, firmware_of, checked_by, checked_of}
 
-pub too_short : (f : List ℕ) → length f < 16 → Suffix.FileTooShort ≡ suffix_of f
+-- the suffix that stands in 16 bytes
+abbrev pub standing : List ℕ → Suffix
+standing t = record { identities = identities_of t; crc = field 12 4 t }
+
+pub too_short : (f : List ℕ) → length f < 16 → Err Error.FileTooShort ≡ suffix_of f
 unfolding suffix_of
 too_short f h = simp (lt-ltb (length f) 16 h)
 
-module _ (f : List ℕ) (h : 16 ≤ length f) where
-  -- the suffix as the code takes it
-  abbrev pub taken : List ℕ
-  taken = take (length f - (length f - 16)) (drop (length f - 16) f)
+-- where t is the suffix as the code takes it
+module _ (f t : List ℕ) (h : 16 ≤ length f) (last : t ≡ last_of f) where
+  signed : (b : Bool) → prefix (codes "UFD") (take 8 (drop 8 t)) ≡ b → prefix (codes "UFD") (drop 8 (last_of f)) ≡ b
+  signed b s =
+      let n : length t ≡ 16 = ap length last ∙ omega (arith, length-drop (length f - 16) f) in
+      ap (prefix (codes "UFD")) (ap (drop 8) (sym last) ∙ sym (take_all 8 (drop 8 t) (omega (arith, length-drop 8 t)))) ∙ s
 
-  last_is : taken ≡ last_of f
-  last_is = onwards (length f - 16) f
-
-  signed : (b : Bool) → prefix (85 ∷ 70 ∷ 68 ∷ []) (take (length taken - 8) (drop 8 taken)) ≡ b → prefix (85 ∷ 70 ∷ 68 ∷ []) (drop 8 (last_of f)) ≡ b
-  signed b s = ap (prefix (85 ∷ 70 ∷ 68 ∷ [])) (ap (drop 8) (sym last_is) ∙ sym (onwards 8 taken)) ∙ s
-
-  pub no_signature : prefix (85 ∷ 70 ∷ 68 ∷ []) (take (length taken - 8) (drop 8 taken)) ≡ false → Suffix.NoSignature ≡ suffix_of f
-  unfolding suffix_of codes
+  pub no_signature : prefix (codes "UFD") (take 8 (drop 8 t)) ≡ false → Err Error.NoSignature ≡ suffix_of f
+  unfolding suffix_of
   no_signature s = simp (le-ltb (length f) 16 h, signed false s)
 
-  module _ (s : prefix (85 ∷ 70 ∷ 68 ∷ []) (take (length taken - 8) (drop 8 taken)) ≡ true) where
-    pub wrong_length : (get_or taken 11 0 ≡ 16 → ⊥) → Suffix.WrongLength ≡ suffix_of f
-    unfolding suffix_of codes
+  module _ (s : prefix (codes "UFD") (take 8 (drop 8 t)) ≡ true) where
+    pub wrong_length : (get_or t 11 0 ≡ 16 → ⊥) → Err Error.WrongLength ≡ suffix_of f
+    unfolding suffix_of
     wrong_length n =
-        simp (le-ltb (length f) 16 h, signed true s, ne_eqb (get_or (last_of f) 11 0) 16 (λ e. n (ap (λ (t : List ℕ). get_or t 11 0) last_is ∙ e)))
+        simp (le-ltb (length f) 16 h, signed true s, ne_eqb (get_or (last_of f) 11 0) 16 (λ e. n (ap (λ (u : List ℕ). get_or u 11 0) last ∙ e)))
 
-    module _ (n : get_or taken 11 0 ≡ 16) where
+    module _ (n : get_or t 11 0 ≡ 16) where
       sixteen : get_or (last_of f) 11 0 ≡ 16
-      sixteen = ap (λ (t : List ℕ). get_or t 11 0) (sym last_is) ∙ n
+      sixteen = ap (λ (u : List ℕ). get_or u 11 0) (sym last) ∙ n
 
-      pub wrong_crc : (field 12 4 taken ≡ crc_of (take (length f - 4) f) → ⊥) → Suffix.WrongCrc ≡ suffix_of f
-      unfolding suffix_of codes
+      pub wrong_crc : (field 12 4 t ≡ crc_of (take (length f - 4) f) → ⊥) → Err Error.WrongCrc ≡ suffix_of f
+      unfolding suffix_of
       wrong_crc c =
           simp (
             le-ltb (length f) 16 h,
             signed true s,
             eq-eqb (get_or (last_of f) 11 0) 16 sixteen,
-            ne_eqb (field 12 4 (last_of f)) (crc_of (take (length f - 4) f)) (λ e. c (ap (field 12 4) last_is ∙ e)),
+            ne_eqb (field 12 4 (last_of f)) (crc_of (take (length f - 4) f)) (λ e. c (ap (field 12 4) last ∙ e)),
           )
 
-      pub all_read : field 12 4 taken ≡ crc_of (take (length f - 4) f) → Suffix.Read (identities_of taken) (field 12 4 taken) ≡ suffix_of f
-      unfolding suffix_of codes
+      pub all_read : field 12 4 t ≡ crc_of (take (length f - 4) f) → Ok (standing t) ≡ suffix_of f
+      unfolding suffix_of
       all_read c =
-          ap (λ (t : List ℕ). Suffix.Read (identities_of t) (field 12 4 t)) last_is
+          ap (λ (u : List ℕ). Ok (standing u)) last
           ∙ simp (
             le-ltb (length f) 16 h,
             signed true s,
             eq-eqb (get_or (last_of f) 11 0) 16 sixteen,
-            eq-eqb (field 12 4 (last_of f)) (crc_of (take (length f - 4) f)) (ap (field 12 4) (sym last_is) ∙ c),
+            eq-eqb (field 12 4 (last_of f)) (crc_of (take (length f - 4) f)) (ap (field 12 4) (sym last) ∙ c),
           )
 
 -- what was read has a suffix's length
-pub read_long : (f : List ℕ) {i : Identities} {c : ℕ} → suffix_of f ≡ Suffix.Read i c → 16 ≤ length f
-read_long f e = ⊎_elim (λ l. absurd (let x = too_short f l in let z : ◌≡◌ {A = ℕ} 0 1 = cc in omega arith)) (λ g. g) (lt_or_ge (length f) 16)
+pub read_long : (f : List ℕ) {s : Suffix} → suffix_of f ≡ Ok s → 16 ≤ length f
+read_long f e = ⊎_elim (λ l. absurd (let x = too_short f l in cc)) (λ g. g) (lt_or_ge (length f) 16)
 
-pub part_is : (f : List ℕ) {r : Suffix} → suffix_of f ≡ r → part_by r f ≡ firmware_of f
+pub part_is : (f : List ℕ) {r : Result Suffix Error} → suffix_of f ≡ r → part_by r f ≡ firmware_of f
 unfolding firmware_of
-part_is f e = ap (λ (r : Suffix). part_by r f) (sym e)
+part_is f e = ap (λ (r : Result Suffix Error). part_by r f) (sym e)
 
--- the firmware part is so many bytes from the start
-pub within : (r : Suffix) (n : ℕ) → length_by r n ≤ n
-within (Suffix.Read i c) n = omega arith
-within Suffix.FileTooShort n = omega arith
-within Suffix.NoSignature n = omega arith
-within Suffix.WrongLength n = omega arith
-within Suffix.WrongCrc n = omega arith
+-- the firmware part is so many bytes from the start as both at once say; of a file that is refused it is none
+by_length : (r : Result Suffix Error) (f : List ℕ) → MatchResult (checked_by r (length f)) (λ x. take x.firmware f ≡ part_by r f) (λ e. [] ≡ part_by r f)
+by_length (Ok s) f = refl
+by_length (Err e) f = refl
 
-by_length : (r : Suffix) (f : List ℕ) → take (length_by r (length f)) f ≡ part_by r f
-by_length (Suffix.Read i c) f = refl
-by_length Suffix.FileTooShort f = refl
-by_length Suffix.NoSignature f = refl
-by_length Suffix.WrongLength f = refl
-by_length Suffix.WrongCrc f = refl
-
-pub checked_part : (f : List ℕ) → take (checked_of f).firmware f ≡ firmware_of f
+pub checked_part : (f : List ℕ) → MatchResult (checked_of f) (λ x. take x.firmware f ≡ firmware_of f) (λ e. [] ≡ firmware_of f)
 unfolding firmware_of
 checked_part f = by_length (suffix_of f) f
+
+-- the same of what a call has answered
+pub part_by_answer : (f : List ℕ) {r : Result Checked Error} → r ≡ checked_of f → MatchResult r (λ x. take x.firmware f ≡ firmware_of f) (λ e. [] ≡ firmware_of f)
+part_by_answer f e = subst (λ (r : Result Checked Error). MatchResult r (λ x. take x.firmware f ≡ firmware_of f) (λ e. [] ≡ firmware_of f)) (sym e) (checked_part f)

@@ -2,17 +2,17 @@
 #![tactic(auto)]
 
 ghost use Rattle.std.specs.Prelude.{◌≡◌};
-ghost use Rattle.ground.specs.Bytes.{field};
-ghost use Rattle.suffix.specs.Suffix.{identities_of, suffix_of, length_by, firmware_of, checked_of, said_of};
-ghost use Rattle.ground.specs.Said.{report_of};
+ghost use Rattle.suffix.specs.Suffix.{identities_of, suffix_of, firmware_of, checked_of, said_suffix, said_error};
 
-use ground::Report;
+pub use ground::word_at;
+use ground::{Answer, Report};
+use std::fmt;
 
 // How many bytes a suffix has; its length byte says so too.
 pub const LENGTH: usize = 16;
 
 // Whom a file is for.
-#[derive(Clone, Copy)]
+#[derive(Clone, Copy, Debug, PartialEq, Eq)]
 pub struct Identities {
     // bcdDevice
     pub device: u16,
@@ -24,10 +24,24 @@ pub struct Identities {
     pub dfu_version: u16,
 }
 
-// What a file is by its suffix.
-#[derive(Clone, Copy)]
-pub enum Suffix {
-    // Refusal 40: fewer than 16 bytes.
+// What a file's suffix says.
+#[derive(Clone, Copy, Debug, PartialEq, Eq)]
+pub struct Suffix {
+    pub identities: Identities,
+    pub crc: u32,
+}
+
+// A file's suffix, and how many of its first bytes are firmware.
+#[derive(Clone, Copy, Debug, PartialEq, Eq)]
+pub struct Checked {
+    pub suffix: Suffix,
+    pub firmware: usize,
+}
+
+// Why a file is refused.
+#[derive(Clone, Copy, Debug, PartialEq, Eq)]
+pub enum Error {
+    // 40: fewer than 16 bytes
     FileTooShort,
     // 41: `UFD` is not in its place
     NoSignature,
@@ -35,135 +49,113 @@ pub enum Suffix {
     WrongLength,
     // 43: the CRC is not that of the bytes before it
     WrongCrc,
-    Read { identities: Identities, crc: u32 },
 }
 
-// What a file is by its suffix, and how many of its first bytes are firmware.
-#[derive(Clone, Copy)]
-pub struct Checked {
-    pub suffix: Suffix,
-    pub firmware: usize,
-}
-
-// The four bytes at a place as a number.
-pub fn word_at(s: &[u8], at: usize) -> u32
-    ensures { result ≡ field at 4 s.now }
-{
-    if s.len() < at {
-        return 0;
-    }
-    let rest = &s[at..];
-    (ground::pair_at(rest, 0) as u32) + (ground::pair_at(rest, 2) as u32) * 65536
-}
-
-// The identities of the 16 bytes of a suffix.
-fn ids(suffix: &[u8]) -> Identities
-    ensures { result ≡ identities_of suffix.now }
-{
-    Identities {
-        device: ground::pair_at(suffix, 0),
-        product: ground::pair_at(suffix, 2),
-        vendor: ground::pair_at(suffix, 4),
-        dfu_version: ground::pair_at(suffix, 6),
+impl Identities {
+    // The identities of the 16 bytes of a suffix.
+    fn of(suffix: &[u8]) -> Identities
+        ensures { result ≡ identities_of suffix.now }
+    {
+        Identities {
+            device: ground::pair_at(suffix, 0),
+            product: ground::pair_at(suffix, 2),
+            vendor: ground::pair_at(suffix, 4),
+            dfu_version: ground::pair_at(suffix, 6),
+        }
     }
 }
 
 impl Suffix {
     // Reads a file's suffix: the tests stand in the order of their refusals.
-    pub fn read(file: &[u8]) -> Suffix
+    #[tactic(auto, unfolding(crate::specs::Suffix::suffix_of))]
+    pub fn read(file: &[u8]) -> Result<Suffix, Error>
         ensures { result ≡ suffix_of file.now }
     {
-        if file.len() < LENGTH {
-            return Suffix::FileTooShort;
-        }
-        let suffix = &file[file.len() - LENGTH..];
+        let Some((_, suffix)) = file.split_last_chunk::<LENGTH>() else {
+            return Err(Error::FileTooShort);
+        };
         if !ground::starts_with(&suffix[8..], b"UFD") {
-            return Suffix::NoSignature;
+            return Err(Error::NoSignature);
         }
-        if suffix[11] != 16 {
-            return Suffix::WrongLength;
+        if usize::from(suffix[11]) != LENGTH {
+            return Err(Error::WrongLength);
         }
         let crc = word_at(suffix, 12);
         if crc != crc32::of(&file[..file.len() - 4]) {
-            return Suffix::WrongCrc;
+            return Err(Error::WrongCrc);
         }
-        Suffix::Read {
-            identities: ids(suffix),
+        Ok(Suffix {
+            identities: Identities::of(suffix),
             crc,
-        }
-    }
-
-    // How many bytes of a file of so many are firmware: all before the suffix, and none of a file that is refused.
-    fn part_length(self, len: usize) -> usize
-        ensures { result ≡ length_by self len }
-    {
-        match self {
-            Suffix::Read {
-                identities: _,
-                crc: _,
-            } => {
-                if len < LENGTH {
-                    return 0;
-                }
-                len - LENGTH
-            }
-            Suffix::FileTooShort => 0,
-            Suffix::NoSignature => 0,
-            Suffix::WrongLength => 0,
-            Suffix::WrongCrc => 0,
-        }
+        })
     }
 
     // Suffix and firmware at once: the CRC, which takes nearly all the time, is computed once for both.
-    pub fn check(file: &[u8]) -> Checked
+    #[tactic(auto, using(crate::proofs::Tested::read_long))]
+    pub fn check(file: &[u8]) -> Result<Checked, Error>
         ensures { result ≡ checked_of file.now }
     {
-        let suffix = Suffix::read(file);
-        let firmware = suffix.part_length(file.len());
-        Checked { suffix, firmware }
+        let suffix = Suffix::read(file)?;
+        Ok(Checked {
+            suffix,
+            firmware: file.len() - LENGTH,
+        })
     }
 
     // The firmware part of a file; of a file that is refused the empty part at its start.
     pub fn firmware(file: &[u8]) -> &[u8]
         ensures { result.now ≡ firmware_of file.now }
     {
-        let checked = Suffix::check(file);
-        let n = checked.firmware;
-        &file[..n]
-    }
-}
-
-// The values of a suffix that was read.
-fn values(i: Identities, crc: u32) -> Report
-    ensures { result ≡ report_of (said_of (Suffix.Read i crc)) }
-{
-    Report {
-        number: 0,
-        count: 5,
-        values: [
-            i.device as u64,
-            i.product as u64,
-            i.vendor as u64,
-            i.dfu_version as u64,
-            crc as u64,
-            0,
-            0,
-            0,
-        ],
-    }
-}
-
-impl Suffix {
-    // The number and values of the answer.
-    pub fn said(self) -> Report
-        ensures { result ≡ report_of (said_of self) }
-    {
-        match self {
-            Suffix::FileTooShort => Report::plain(40),
-            Suffix::NoSignature => Report::plain(41),
-            Suffix::WrongLength => Report::plain(42),
-            Suffix::WrongCrc => Report::plain(43),
-            Suffix::Read { identities, crc } => values(identities, crc),
+        match Suffix::check(file) {
+            Ok(checked) => &file[..checked.firmware],
+            Err(_) => &file[..0],
         }
     }
 }
+
+// A suffix's values.
+impl Answer for Suffix {
+    ghost tells = { said_suffix };
+
+    fn said(self) -> Report {
+        let i = self.identities;
+        Report::of(
+            0,
+            [
+                u64::from(i.device),
+                u64::from(i.product),
+                u64::from(i.vendor),
+                u64::from(i.dfu_version),
+                u64::from(self.crc),
+            ],
+        )
+    }
+}
+
+impl Answer for Error {
+    ghost tells = { said_error };
+
+    fn said(self) -> Report {
+        let number = match self {
+            Error::FileTooShort => 40,
+            Error::NoSignature => 41,
+            Error::WrongLength => 42,
+            Error::WrongCrc => 43,
+        };
+        Report::of(number, [])
+    }
+}
+
+impl fmt::Display for Error {
+    fn fmt<W: fmt::Write>(&self, f: &mut fmt::Formatter<W>) -> fmt::Result {
+        let words = match self {
+            Error::FileTooShort => "the file has fewer than 16 bytes, so no suffix",
+            Error::NoSignature => "the file has no suffix: UFD is not in its place",
+            Error::WrongLength => "the suffix says another length than 16",
+            Error::WrongCrc => "the CRC is not that of the bytes before it: the file is damaged",
+        };
+        f.write_str(words)
+    }
+}
+
+impl std::error::Error for Error {}

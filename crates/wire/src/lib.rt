@@ -1,13 +1,13 @@
 // A request on the wire: type, request, value and bytes, and the bytes of a DfuSe command.
 #![tactic(auto)]
 
-ghost use Rattle.std.specs.Prelude.{◌≡◌, ◌+◌, ◌≤◌, [], ◌∷◌, ◌++◌, leb, length, take, drop};
+ghost use Rattle.std.specs.Prelude.{◌≡◌, ◌+◌, ◌≤◌, [], ◌∷◌, ◌++◌, nat_le, length, take, drop};
 ghost use Rattle.ground.specs.Pick.{pick};
 ghost use Rattle.ground.specs.Bytes.{bytes_low};
 ghost use Rattle.wire.specs.Wire.{filled_in, request_data, wire_of};
 
 // A download request, by what it means.
-#[derive(Clone, Copy)]
+#[derive(Clone, Copy, Debug, PartialEq, Eq)]
 pub enum Command {
     // Erase the page at a position.
     Erase(u32),
@@ -20,7 +20,7 @@ pub enum Command {
 }
 
 // A control transfer, by what it means.
-#[derive(Clone, Copy)]
+#[derive(Clone, Copy, Debug, PartialEq, Eq)]
 pub enum Request {
     GetStatus,
     ClearStatus,
@@ -28,7 +28,7 @@ pub enum Request {
 }
 
 // A control transfer: so many bytes are taken from the device, or carried to it.
-#[derive(Clone, Copy)]
+#[derive(Clone, Copy, Debug, PartialEq, Eq)]
 pub struct Control {
     pub request_type: u8,
     pub request: u8,
@@ -47,6 +47,11 @@ const DFU_DNLOAD: u8 = 1;
 const DFU_GETSTATUS: u8 = 3;
 
 const DFU_CLRSTATUS: u8 = 4;
+
+// The first byte of a DfuSe command.
+const ERASE: u8 = 0x41;
+
+const SET_ADDRESS: u8 = 0x21;
 
 // A download request with so many bytes of data.
 fn dnload(value: u16, carries: u32) -> Control
@@ -81,16 +86,9 @@ impl Request {
                 takes: 0,
                 carries: 0,
             },
-            Request::Command(command) => match command {
-                Command::Erase(_) => dnload(0, 5),
-                Command::SetAddress(_) => dnload(0, 5),
-                Command::Block {
-                    number,
-                    place: _,
-                    len,
-                } => dnload(number, len),
-                Command::Empty { number } => dnload(number, 0),
-            },
+            Request::Command(Command::Erase(_) | Command::SetAddress(_)) => dnload(0, 5),
+            Request::Command(Command::Block { number, len, .. }) => dnload(number, len),
+            Request::Command(Command::Empty { number }) => dnload(number, 0),
         }
     }
 }
@@ -100,14 +98,8 @@ fn put(command: &mut [u8], op: u8, position: u32)
     requires { 5 ≤ length command.old }
     ensures { command.new ≡ op ∷ (bytes_low 4 position ++ drop 5 command.old) }
 {
-    let second = position / 256;
-    let third = second / 256;
-    let fourth = third / 256;
     command[0] = op;
-    command[1] = (position % 256) as u8;
-    command[2] = (second % 256) as u8;
-    command[3] = (third % 256) as u8;
-    command[4] = (fourth % 256) as u8;
+    command[1..5].copy_from_slice(&position.to_le_bytes());
 }
 
 // The command bytes that a request carries; any other leaves them as they are, and fewer than five are left alone.
@@ -118,42 +110,18 @@ pub fn fill(request: Request, command: &mut [u8])
         return;
     }
     match request {
-        Request::GetStatus => {}
-        Request::ClearStatus => {}
-        Request::Command(sent) => match sent {
-            Command::Erase(position) => put(command, 0x41, position),
-            Command::SetAddress(position) => put(command, 0x21, position),
-            Command::Block {
-                number: _,
-                place: _,
-                len: _,
-            } => {}
-            Command::Empty { number: _ } => {}
-        },
+        Request::Command(Command::Erase(position)) => put(command, ERASE, position),
+        Request::Command(Command::SetAddress(position)) => put(command, SET_ADDRESS, position),
+        _ => {}
     }
 }
 
 // So many bytes from a place on, or none if they run past the end.
-fn part<'a>(s: &'a [u8], place: usize, len: usize) -> &'a [u8]
-    ensures { result.now ≡ pick (leb (place + len) (length s.now)) (take len (drop place s.now)) [] }
+fn part<'a>(s: &'a [u8], place: u32, len: u32) -> &'a [u8]
+    ensures { result.now ≡ pick (nat_le (place + len) (length s.now)) (take len (drop place s.now)) [] }
 {
-    if s.len() < len {
-        return &s[..0];
-    }
-    if s.len() - len < place {
-        return &s[..0];
-    }
-    &s[place..place + len]
-}
-
-// The first five command bytes, or all if there are fewer.
-fn first_five<'a>(command: &'a [u8]) -> &'a [u8]
-    ensures { result.now ≡ take 5 command.now }
-{
-    if command.len() < 5 {
-        return command;
-    }
-    &command[..5]
+    let from = place as usize;
+    s.get(from..from + len as usize).unwrap_or(&s[..0])
 }
 
 // The data that a request carries: a part of the firmware, or the first five command bytes.
@@ -161,17 +129,11 @@ pub fn data<'a>(request: Request, firmware: &'a [u8], command: &'a [u8]) -> &'a 
     ensures { result.now ≡ request_data request firmware.now command.now }
 {
     match request {
-        Request::GetStatus => &firmware[..0],
-        Request::ClearStatus => &firmware[..0],
-        Request::Command(sent) => match sent {
-            Command::Erase(_) => first_five(command),
-            Command::SetAddress(_) => first_five(command),
-            Command::Block {
-                number: _,
-                place,
-                len,
-            } => part(firmware, place as usize, len as usize),
-            Command::Empty { number: _ } => &firmware[firmware.len()..],
-        },
+        Request::GetStatus | Request::ClearStatus => &firmware[..0],
+        Request::Command(Command::Erase(_) | Command::SetAddress(_)) => {
+            &command[..command.len().min(5)]
+        }
+        Request::Command(Command::Block { place, len, .. }) => part(firmware, place, len),
+        Request::Command(Command::Empty { .. }) => &firmware[firmware.len()..],
     }
 }

@@ -1,10 +1,8 @@
 -- Laws of `block_count`: how many blocks so many bytes fill. Assumes nothing.
-use Prim.Native.Nat.{ℕ, zero, suc, ◌+◌, ◌-◌, ◌*◌, ◌/◌, ◌<◌, ◌≤◌}
-use native.Mathlib.Nat.{div-eq_of_lt, div-eq-sub-div, div-zero, div-le_self, le-div_iff_mul-le}
-use native.Mathlib.Numerals.{add-one}
-use native.Mathlib.Omega.{arith}
-use mathlib.Core.Path.{◌≡◌, refl, ap, sym, ◌∙◌}
-use mathlib.Core.Bool.{Bool, true, false}
+use Rattle.std.proofs.Common.{◌≡◌, ℕ, zero, suc, ◌+◌, ◌-◌, ◌*◌, ◌/◌, ◌<◌, ◌≤◌, Bool, true, false, refl, ap, sym, ◌∙◌, add-one, arith}
+use Rattle.std.proofs.Math.Nat.{div-eq_of_lt, div-eq_of_lt-le, div-eq-sub-div, div-zero, div-le_self, le-div_iff_mul-le}
+use Rattle.std.proofs.lemmas.Grind.{div_ceil_times}
+use Rattle.std.specs.Int.{div_ceil}
 use lib.Dec.{leb}
 use borrow.Author.Tests.{leb-true, leb-false}
 use Rattle.work.specs.Work.{block_count}
@@ -17,6 +15,13 @@ block_count_sizeless n = div-zero (n + (0 - 1))
 pub block_count_bound : (n s : ℕ) → block_count n s ≤ n + s
 unfolding block_count
 block_count_bound n s = omega (arith, div-le_self (n + (s - 1)) s)
+
+-- the library's rounding up gives it
+pub block_count_ceil : (n s : ℕ) → 0 < s → div_ceil n s ≡ block_count n s
+unfolding block_count
+block_count_ceil n s h =
+    let around = div_ceil_times n s h in
+    sym (div-eq_of_lt-le {k = div_ceil n s} s (omega arith) (omega arith))
 
 -- none for no bytes, otherwise one and those for what is left
 pub block_count_zero : (s : ℕ) → 0 < s → block_count 0 s ≡ 0

@@ -9,21 +9,21 @@ use Rattle.work.proofs.blocks.Kinds as blocks_kinds
 use Rattle.work.proofs.blocks.Reads as blocks_reads
 use Rattle.work.proofs.whole.Kinds as whole_kinds
 use Rattle.work.proofs.whole.Reads as whole_reads
-use Rattle.work.proofs.number_at.Kinds as number_at_kinds
-use Rattle.work.proofs.number_at.Reads as number_at_reads
-use Rattle.work.proofs.block_length.Kinds as block_length_kinds
-use Rattle.work.proofs.block_length.Reads as block_length_reads
-use Rattle.work.proofs.staged.Kinds as staged_kinds
-use Rattle.work.proofs.staged.Reads as staged_reads
-use Rattle.work.proofs.enter.Kinds as enter_kinds
-use Rattle.work.proofs.enter.Reads as enter_reads
+use Rattle.work.proofs.Setup.number_at.Kinds as number_at_kinds
+use Rattle.work.proofs.Setup.number_at.Reads as number_at_reads
+use Rattle.work.proofs.Setup.block_length.Kinds as block_length_kinds
+use Rattle.work.proofs.Setup.block_length.Reads as block_length_reads
+use Rattle.work.proofs.Progress.staged.Kinds as staged_kinds
+use Rattle.work.proofs.Progress.staged.Reads as staged_reads
+use Rattle.work.proofs.Progress.enter.Kinds as enter_kinds
+use Rattle.work.proofs.Progress.enter.Reads as enter_reads
 use Rattle.work.proofs.is_taken.Kinds as is_taken_kinds
 use Rattle.work.proofs.is_taken.Reads as is_taken_reads
-use Rattle.work.proofs.wait_after.Kinds as wait_after_kinds
-use Rattle.work.proofs.wait_after.Reads as wait_after_reads
+use Rattle.work.proofs.Setup.wait_after.Kinds as wait_after_kinds
+use Rattle.work.proofs.Setup.wait_after.Reads as wait_after_reads
 use Rattle.ground.specs.declared.Report.{Report}
-use Rattle.work.proofs.Error.said.Kinds as said_kinds
-use Rattle.work.proofs.Error.said.Reads as said_reads
+use Rattle.work.proofs.ErrorAnswer.said.Kinds as said_kinds
+use Rattle.work.proofs.ErrorAnswer.said.Reads as said_reads
 
 pub pinned_blocks : Pins blocks_kinds.ps blocks_kinds.r {R = ℕ} blocks_reads.Post (λ κs r s. r)
 pinned_blocks κs a x y s t p q = p ∙ sym q

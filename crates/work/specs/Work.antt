@@ -1,9 +1,10 @@
 -- What every work has: document 01, 'One session, step by step', its paragraphs on blocks and on what is awaited after a command.
-use Rattle.std.specs.Prelude.{ℕ, ◌+◌, ◌-◌, ◌/◌, ◌^◌, ◌%◌, min, Bool, true, [], ◌∷◌, ◌==◌}
+use Rattle.std.specs.Prelude.{ℕ, ◌+◌, ◌-◌, ◌/◌, ◌^◌, ◌%◌, min, Bool, true, [], ◌∷◌, ◌==◌, Result}
 use Rattle.ground.specs.Pick.{pick}
 use Rattle.ground.specs.Said.{Said, says}
 use Rattle.get_status.specs.Names.{state_byte, status_byte}
 use Rattle.get_status.specs.declared.State.{State}
+use Rattle.get_status.specs.declared.Error.{Error as ReplyError}
 use Rattle.wire.specs.declared.Command.{Command}
 use Rattle.work.specs.declared.Wait.{Wait}
 use Rattle.work.specs.declared.Error.{Error}
@@ -40,7 +41,7 @@ entered su pr n = record { stage = pr.stage; erased = pr.erased; page = pr.page;
 
 -- the work: what it wants next, and how a command that was taken, with so many bytes, moves it
 pub record Work : Type 0 where
-  pub next : Setup → Progress → Todo
+  pub next : Setup → Progress → Result Todo Error
   pub took : Setup → Progress → Command → ℕ → Progress
 
 -- after a command that was taken with k bytes; erase, address or block: wait, 0 ms first; busy 4, target 5; after the empty block busy 7, target 2 if tolerant, else 7
@@ -63,6 +64,12 @@ takenb (Command.Erase a) n = true
 takenb (Command.SetAddress a) n = true
 takenb (Command.Block b f m) n = n == m
 takenb (Command.Empty b) n = true
+
+-- why a reply ends a session
+abbrev pub refusal_of : ReplyError → Error
+refusal_of (ReplyError.ResponseTooShort got) = Error.ResponseTooShort got
+refusal_of (ReplyError.StatusError status) = Error.StatusError status
+refusal_of (ReplyError.InvalidState got expected) = Error.InvalidState got expected
 
 -- document 01's number and values for each answer
 abbrev pub said_error : Error → Said

@@ -1,9 +1,10 @@
 -- `of` meets its contract: the words of the source have the table's rule.
-use mathlib.Core.Path.{refl}
+use Rattle.std.proofs.Common.{refl}
 use Rattle.papers.specs.Crc.{shifted, eight}
+use Rattle.crc32.specs.declared.TheConstants.{WORDS}
 use Rattle.crc32.proofs.Rule.{rule}
 use Rattle.crc32.proofs.of.Goals as goal
 
-pub advance-requires : goal.advance-requires
+pub invariant_of-table : goal.invariant_of-table
 unfolding shifted eight
-advance-requires c = rule _ refl tt
+invariant_of-table c = record { rule = rule WORDS refl tt }

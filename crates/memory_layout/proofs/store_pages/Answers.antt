@@ -1,126 +1,54 @@
 -- `store_pages` meets its contract: the pages so far stand in front, and what is to come is known.
-use Rattle.std.proofs.Common.{◌≡◌, ℕ, ◌+◌, ◌-◌, ◌<◌, ◌≤◌, min, List, ◌++◌, length, take, drop, sym, ap, ◌∙◌, arith, length-drop, length-take}
-use Rattle.memory_layout.specs.Layout.{end_of, split, max_pages, sizes}
-use Rattle.memory_layout.proofs.Scan.{end_from, end_in}
-use Rattle.memory_layout.proofs.Turns.{here}
-use Rattle.memory_layout.proofs.Accepted.{star, no_fault, space, ends, goes_on, sizes_last, sizes_more}
-use Rattle.memory_layout.proofs.Store.{front, back, filled}
+use Rattle.std.proofs.Common.{◌≡◌, ◌==◌, ℕ, ◌+◌, length, drop, sym, arith, rules, subst}
+use Rattle.std.proofs.lemmas.List.{length_push}
+use Rattle.std.proofs.lemmas.Iterator.Consumers.{YieldsList-turn, YieldsList-end}
+use Rattle.std.proofs.lemmas.Iterator.Splits.{YieldsList-from_slice_split}
+use Rattle.memory_layout.specs.Layout.{split}
+use Rattle.memory_layout.proofs.Accepted.{accepted, no_fault}
+use Rattle.memory_layout.proofs.Store.{StoredTo, here, none_left, none_stored, more_stored, all_stored, room}
 use Rattle.memory_layout.proofs.store_pages.Goals as goal
 
-pub slice_bounds-read_piece-count : goal.slice_bounds-read_piece-count
-slice_bounds-read_piece-count c =
-    let g = c.args in
-    let l = c.loop-count in
-    let s = g.text.now in
-    omega (arith, c.find-e.ensures, end_from 44 s l.a, end_in 44 s l.a l.invariant.1)
-
-pub slice_bounds-read_piece-start : goal.slice_bounds-read_piece-start
-slice_bounds-read_piece-start c =
-    let g = c.args in
-    let l = c.loop-count in
-    let s = g.text.now in
-    omega (arith, c.find-e.ensures, end_from 44 s l.a, end_in 44 s l.a l.invariant.1)
-
-pub slice_bounds-read_piece-end : goal.slice_bounds-read_piece-end
-slice_bounds-read_piece-end c =
-    let g = c.args in
-    let l = c.loop-count in
-    let s = g.text.now in
-    omega (arith, c.find-e.ensures, end_from 44 s l.a, end_in 44 s l.a l.invariant.1)
-
-pub overflow_sub-star : goal.overflow_sub-star
-overflow_sub-star c =
-    let g = c.args in
-    let l = c.loop-count in
-    let s = g.text.now in
-    let h = star (min (length g.store.now) max_pages) s l.a l.k g.n l.invariant.3 in
-    omega (arith, c.find-star.ensures, end_from 42 s l.a)
-
-pub read_piece-p-requires-clause-star_in_bounds : goal.read_piece-p-requires-clause-star_in_bounds
-read_piece-p-requires-clause-star_in_bounds c =
-    let g = c.args in
-    let l = c.loop-count in
-    let s = g.text.now in
-    let h = star (min (length g.store.now) max_pages) s l.a l.k g.n l.invariant.3 in
-    let n = c.find-e.result - l.a in
-    omega (arith, length-take n (drop l.a s), length-drop l.a s, end_in 44 s l.a l.invariant.1, end_from 42 s l.a, c.find-star.ensures, c.find-e.ensures)
+pub loop-piece-init : goal.loop-piece-init
+loop-piece-init c = let a = accepted _ c.requires in (a.0, none_stored c.args.text.now c.args.store.now a.0 a.1)
 
 pub returns-in_default : goal.returns-in_default
 returns-in_default c =
-    let g = c.args in
-    let l = c.loop-count in
-    let s = g.text.now in
-    let m = min (length g.store.now) max_pages in
-    let h = star m s l.a l.k g.n l.invariant.3 in
-    let e = c.find-e in
-    let this = here s l.a c.find-star.result e.result _ (sym c.find-star.ensures) h e.ensures c.in_default.ensures in
-    absurd (no_fault m s l.a l.k g.n l.invariant.3 _ this)
+    let l = c.loop-piece in
+    let e = YieldsList-from_slice_split _ (λ b. b == 44) c.args.text.now (cc) (cc) (cc) (λ x b q. search rules) in
+    let t = YieldsList-turn e l.yielded _ l.yielded_by _ _ c.in-Some.piece c.in-Some.is c.next.ensures.steps in
+    let i = here c.args.text.now c.args.store.now l.invariant.0 (length l.yielded) l.at l.filled l.store l.invariant.1 c.in-Some.piece.now t in
+    absurd (no_fault _ _ _ _ _ _ i.accepted c.in_default.field-0 (sym c.in_default.ensures))
 
-pub fill-requires : goal.fill-requires
-fill-requires c =
-    let g = c.args in
-    let l = c.loop-count in
-    let s = g.text.now in
-    let m = min (length g.store.now) max_pages in
-    let h = star m s l.a l.k g.n l.invariant.3 in
-    let e = c.find-e in
-    let this = here s l.a c.find-star.result e.result _ (sym c.find-star.ensures) h e.ensures c.in-Run.ensures in
-    let w = space m s l.a l.k g.n l.invariant.3 _ _ this in
-    omega arith
+pub lay-requires : goal.lay-requires
+lay-requires c =
+    let l = c.loop-piece in
+    let e = YieldsList-from_slice_split _ (λ b. b == 44) c.args.text.now (cc) (cc) (cc) (λ x b q. search rules) in
+    let t = YieldsList-turn e l.yielded _ l.yielded_by _ _ c.in-Some.piece c.in-Some.is c.next.ensures.steps in
+    let i = here c.args.text.now c.args.store.now l.invariant.0 (length l.yielded) l.at l.filled l.store l.invariant.1 c.in-Some.piece.now t in
+    room _ _ _ _ _ _ _ _ i c.in-Ok.run' (sym c.in-Ok.ensures)
 
-pub loop-count-smaller : goal.loop-count-smaller
-loop-count-smaller c =
-    let g = c.args in
-    let l = c.loop-count in
-    let s = g.text.now in
-    let h = star (min (length g.store.now) max_pages) s l.a l.k g.n l.invariant.3 in
-    let e = c.find-e in
-    omega (arith, e.ensures, end_from 44 s l.a, end_in 44 s l.a l.invariant.1)
+pub overflow_add-at-in-loop-piece : goal.overflow_add-at-in-loop-piece
+overflow_add-at-in-loop-piece c =
+    let l = c.loop-piece in
+    let e = YieldsList-from_slice_split _ (λ b. b == 44) c.args.text.now (cc) (cc) (cc) (λ x b q. search rules) in
+    let t = YieldsList-turn e l.yielded _ l.yielded_by _ _ c.in-Some.piece c.in-Some.is c.next.ensures.steps in
+    let i = here c.args.text.now c.args.store.now l.invariant.0 (length l.yielded) l.at l.filled l.store l.invariant.1 c.in-Some.piece.now t in
+    omega (arith, i.left)
 
-pub loop-count-preserved : goal.loop-count-preserved
-loop-count-preserved c =
-    let g = c.args in
-    let l = c.loop-count in
-    let s = g.text.now in
-    let m = min (length g.store.now) max_pages in
-    let h = star m s l.a l.k g.n l.invariant.3 in
-    let e = c.find-e in
-    let run = here s l.a c.find-star.result e.result _ (sym c.find-star.ensures) h e.ensures c.in-Run.ensures in
-    let count = c.in-Run.count in
-    let size = c.in-Run.size in
-    let w = space m s l.a l.k g.n l.invariant.3 count size run in
-    let f = c.fill.ensures in
-    let t : l.k + count ≤ length l.store = omega arith in
-    let q : e.result < length s = omega (arith, e.ensures, end_in 44 s l.a l.invariant.1) in
-    let rest = sizes (split (drop (e.result + 1) s)) (e.result + 1) in
-    let more = sizes_more s l.a count size run e.result e.ensures q in
-    let all = sizes (split s) 0 in (
-      c.fill.auto.store ∙ l.invariant.0,
-      omega arith,
-      omega arith,
-      goes_on m s l.a l.k g.n l.invariant.3 count size run e.result e.ensures q,
-      ap (λ (x : List ℕ). take (l.k + count) x ++ rest) f
-          ∙ front l.store g.store.now all l.k count size t rest (ap (λ (x : List ℕ). take l.k l.store ++ x) (sym more) ∙ l.invariant.4),
-      ap (λ (x : List ℕ). drop (l.k + count) x) f ∙ back l.store g.store.now all l.k count size t l.invariant.5,
-    )
+pub loop-piece-preserved : goal.loop-piece-preserved
+loop-piece-preserved c =
+    let l = c.loop-piece in
+    let e = YieldsList-from_slice_split _ (λ b. b == 44) c.args.text.now (cc) (cc) (cc) (λ x b q. search rules) in
+    let t = YieldsList-turn e l.yielded _ l.yielded_by _ _ c.in-Some.piece c.in-Some.is c.next.ensures.steps in
+    let i = here c.args.text.now c.args.store.now l.invariant.0 (length l.yielded) l.at l.filled l.store l.invariant.1 c.in-Some.piece.now t in
+    let n = length_push l.yielded c.in-Some.piece in
+    let o : l.at + length c.in-Some.piece.now + 1 ≡ l.at + (length c.in-Some.piece.now + 1) = omega arith in
+    let P : ℕ → Type 0 = λ at. StoredTo c.args.text.now c.args.store.now l.invariant.0 (drop (length l.yielded + 1) (split c.args.text.now)) at (l.filled + c.in-Ok.run'.count) c.lay.new.store in
+    (l.invariant.0, rw n (subst P o (more_stored _ _ _ _ _ _ _ _ i c.in-Ok.run' (sym c.in-Ok.ensures) c.lay.new.store c.lay.ensures)))
 
 pub returns : goal.returns
 returns c =
-    let g = c.args in
-    let l = c.loop-count in
-    let s = g.text.now in
-    let m = min (length g.store.now) max_pages in
-    let h = star m s l.a l.k g.n l.invariant.3 in
-    let e = c.find-e in
-    let run = here s l.a c.find-star.result e.result _ (sym c.find-star.ensures) h e.ensures c.in-Run.ensures in
-    let count = c.in-Run.count in
-    let size = c.in-Run.size in
-    let w = space m s l.a l.k g.n l.invariant.3 count size run in
-    let f = c.fill.ensures in
-    let t : l.k + count ≤ length l.store = omega arith in
-    let q : end_of 44 s l.a ≡ length s = sym e.ensures ∙ c.if-e-text.true in
-    let all = sizes (split s) 0 in
-    let end = sizes_last s l.a count size run l.invariant.1 q in
-    f
-    ∙ filled l.store g.store.now all l.k count size t (ap (λ (x : List ℕ). take l.k l.store ++ x) (sym end) ∙ l.invariant.4) l.invariant.5
-    ∙ ap (λ (x : ℕ). all ++ drop x g.store.now) (sym (ends m s l.a l.k g.n l.invariant.3 count size run l.invariant.1 q))
+    let l = c.loop-piece in
+    let e = YieldsList-from_slice_split _ (λ b. b == 44) c.args.text.now (cc) (cc) (cc) (λ x b q. search rules) in
+    let t = YieldsList-end e l.yielded _ l.yielded_by _ _ c.in-None.is c.next.ensures.steps in
+    all_stored _ _ _ _ _ _ (none_left c.args.text.now c.args.store.now l.invariant.0 (length l.yielded) l.at l.filled l.store l.invariant.1 (omega (arith, t.1)))

@@ -1,12 +1,7 @@
-use mathlib.Core.Path.{◌≡◌}
-use Prim.Native.Nat.{◌-◌}
-use lib.ListN.{length}
+use Rattle.std.proofs.Common.{◌≡◌, ◌-◌, length}
 use Rattle.speed.specs.Speed.{ran_of}
 use Rattle.speed.proofs.run.Given as goal
 
-abbrev pub invariant-loop-calls : goal.invariant-loop-calls
-invariant-loop-calls l =
-    (length l.command ≡ length l.initial.command) × (ran_of l.firmware l.pages (1000000 - l.calls) l.command l.session ≡ ran_of l.firmware l.pages 1000000 l.initial.command l.initial.session)
-
-abbrev pub decreases-loop-calls : goal.decreases-loop-calls
-decreases-loop-calls l = 1000000 - l.calls
+abbrev pub invariant-loop : goal.invariant-loop
+invariant-loop l =
+    (length l.command ≡ length l.initial.command) × (ran_of l.firmware l.pages (1000000 - l.counter) l.command l.session ≡ ran_of l.firmware l.pages 1000000 l.initial.command l.initial.session)

@@ -1,17 +1,9 @@
--- `put` meets its contract: five stores are five bytes in front.
-use native.Mathlib.Omega.{arith}
-use lib.ListN.{length-set}
+-- `put` meets its contract: a store and a copy are five bytes in front.
+use Rattle.std.proofs.Common.{◌∙◌}
 use Rattle.wire.proofs.Lent.{five}
 use Rattle.wire.proofs.put.Goals as goal
 
-pub bounds-command-1 : goal.bounds-command-1
-bounds-command-1 c = simp length-set (omega arith)
-
-pub bounds-command-2 : goal.bounds-command-2
-bounds-command-2 c = simp length-set (omega arith)
-
-pub bounds-command-3 : goal.bounds-command-3
-bounds-command-3 c = simp length-set (omega arith)
-
 pub returns : goal.returns
-returns c = five c.args.command.now c.args.op c.args.position c.requires
+returns c =
+    let k = c.copy_from_slice.ensures.after ∙ c.to_le_bytes.ensures in
+    rw k (five c.args.command.now c.args.op c.args.position c.requires)

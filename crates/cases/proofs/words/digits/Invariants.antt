@@ -1,10 +1,7 @@
-use Prim.Native.Nat.{◌-◌}
-use lib.ListN.{length}
+-- The digits so far are a value.
+use Rattle.std.proofs.Common.{◌+◌}
 use Rattle.cases.proofs.Digits.{So}
 use Rattle.cases.proofs.words.digits.Given as goal
 
-abbrev pub invariant-loop-i : goal.invariant-loop-i
-invariant-loop-i l = So l.line l.at l.limit l.value l.i
-
-abbrev pub decreases-loop-i : goal.decreases-loop-i
-decreases-loop-i l = length l.line - l.i
+abbrev pub invariant-loop-n : goal.invariant-loop-n
+invariant-loop-n l = So l.line l.at l.limit l.value (l.at + l.n)

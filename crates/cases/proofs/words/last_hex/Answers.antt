@@ -1,24 +1,14 @@
 -- `last_hex` meets its contract: what HEX gave is answered where it ends the line.
-use mathlib.Core.Path.{sym, ap, ◌∙◌}
-use Rattle.cases.specs.Words.{ending}
-use Rattle.cases.proofs.Hex.{at_end, before_end, last}
+use Rattle.std.proofs.Common.{◌∙◌}
+use Rattle.cases.proofs.Hex.{ends, last}
 use Rattle.cases.proofs.words.last_hex.Goals as goal
 
-pub returns-in-Bad : goal.returns-in-Bad
-returns-in-Bad c =
+pub returns-in_err-read : goal.returns-in_err-read
+returns-in_err-read c =
     let a = c.args in
-    last a.line.now a.at a.bytes.now _ _ _ c.hex-read.ensures (ap (ending a.line.now) (sym c.in-Bad.is))
+    last a.line.now a.at a.bytes.now _ _ _ c.in_err-read.ensures c.from_residual.ensures
 
-pub returns-then-end-line : goal.returns-then-end-line
-returns-then-end-line c =
+pub returns : goal.returns
+returns c =
     let a = c.args in
-    let r = c.in-Read in
-    last a.line.now a.at a.bytes.now _ _ _ c.hex-read.ensures
-    (at_end a.line.now r.len r.end c.if-end-line.true ∙ ap (ending a.line.now) (sym r.is))
-
-pub returns-else-end-line : goal.returns-else-end-line
-returns-else-end-line c =
-    let a = c.args in
-    let r = c.in-Read in
-    last a.line.now a.at a.bytes.now _ _ _ c.hex-read.ensures
-    (before_end a.line.now r.len r.end c.if-end-line.false ∙ ap (ending a.line.now) (sym r.is))
+    last a.line.now a.at a.bytes.now _ _ _ c.in_ok-read.ensures (c.then_some.ensures ∙ ends a.line.now c.in_ok-read.read)

@@ -1,68 +1,20 @@
--- `image` meets its contract: a test after the other, then the walk.
-use Prim.Native.Nat.{ℕ}
-use mathlib.Core.Path.{sym, ap, ◌∙◌}
-use lib.ListN.{length, get_or}
-use lib.Dec.{eqb}
-use Rattle.dfuse_file.specs.declared.walk.Survey.{Survey}
+-- `image` meets its contract: after the tests the walk.
+use Rattle.std.proofs.Common.{◌≡◌, true, length, sym, inl, inr}
+use Rattle.ground.proofs.Lists.{onwards}
 use Rattle.dfuse_file.specs.Reading.{fits}
-use Rattle.dfuse_file.proofs.ImageWalk.{too_short, no_prefix, wrong_version, wrong_size, refused, accepted}
+use Rattle.dfuse_file.proofs.ImageWalk.{accepted, fits_either}
+use Rattle.dfuse_file.proofs.walk.image.Goals.{else-size-image-via-then-size-image+else-not-counted, else-size-image-via-else-size-image}
 use Rattle.dfuse_file.proofs.walk.image.Goals as goal
 
-pub returns-then-end-lt11 : goal.returns-then-end-lt11
-returns-then-end-lt11 c =
+pub returns : goal.returns
+returns c =
     let a = c.args in
-    too_short a.file.now a.end c.requires a.wanted a.identities a.crc
-    c.if-identities-ne282.false
-    c.if-end-lt11.true
-
-pub returns-then-not-starts_with : goal.returns-then-not-starts_with
-returns-then-not-starts_with c =
-    let a = c.args in
-    no_prefix a.file.now a.end c.requires a.wanted a.identities a.crc
-    c.if-identities-ne282.false
-    c.if-end-lt11.false
-    (sym c.if-not-starts_with.ensures)
-
-pub returns-then-file-ne1 : goal.returns-then-file-ne1
-returns-then-file-ne1 c =
-    let a = c.args in
-    wrong_version a.file.now a.end c.requires a.wanted a.identities a.crc
-    c.if-identities-ne282.false
-    c.if-end-lt11.false
-    (sym c.if-not-starts_with.ensures)
-    c.if-file-ne1.true
-
-pub returns-then-not-is_size : goal.returns-then-not-is_size
-returns-then-not-is_size c =
-    let a = c.args in
-    wrong_size a.file.now a.end c.requires a.wanted a.identities a.crc
-    c.if-identities-ne282.false
-    c.if-end-lt11.false
-    (sym c.if-not-starts_with.ensures)
-    c.if-file-ne1.false
-    (ap (λ (n : ℕ). fits n a.end) (sym c.word_at-size.ensures) ∙ sym c.if-not-is_size.ensures)
-
-pub returns-in-Fault : goal.returns-in-Fault
-returns-in-Fault c =
-    let a = c.args in
-    refused a.file.now a.end c.requires a.wanted a.identities a.crc
-    c.if-identities-ne282.false
-    c.if-end-lt11.false
-    (sym c.if-not-starts_with.ensures)
-    c.if-file-ne1.false
-    (ap (λ (n : ℕ). fits n a.end) (sym c.word_at-size.ensures) ∙ sym c.if-not-is_size.ensures)
-    _
-    (c.in-Fault.ensures)
-
-pub returns-in-Fine : goal.returns-in-Fine
-returns-in-Fine c =
-    let a = c.args in
-    ap (λ (n : ℕ). Survey.Read (get_or a.file.now 10 0) (eqb n (length a.file.now)) a.identities a.crc c.in-Fine.tally) c.word_at-size.ensures
-    ∙ accepted a.file.now a.end c.requires a.wanted a.identities a.crc
-    c.if-identities-ne282.false
-    c.if-end-lt11.false
-    (sym c.if-not-starts_with.ensures)
-    c.if-file-ne1.false
-    (ap (λ (n : ℕ). fits n a.end) (sym c.word_at-size.ensures) ∙ sym c.if-not-is_size.ensures)
-    _
-    (c.in-Fine.ensures)
+    let n = c.word_at-size.ensures in
+    let t = simp (onwards 11 a.image.now) at c.in_ok-tally.ensures in
+    let z : fits c.word_at-size.result (length a.image.now) ≡ true =
+    elim c.else-size-image.branch [
+      | else-size-image-via-then-size-image+else-not-counted w ↦ fits_either _ _ (inr w.if-not-counted.false)
+      | else-size-image-via-else-size-image w ↦ fits_either _ _ (inl w.if-size-image.false)
+    ] in
+    let y = rw n at z in
+    rw n (accepted a.image.now a.suffix a.wanted c.in_ok-tally.tally c.if-suffix-ne282.false c.if-image-lt11.false (sym c.if-not-starts_with.ensures) c.if-image-ne1.false y t)

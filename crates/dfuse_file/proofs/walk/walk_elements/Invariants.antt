@@ -1,14 +1,11 @@
-use Prim.Native.Nat.{◌≤◌}
-use mathlib.Core.Path.{◌≡◌}
-use lib.ListN.{length}
+use Rattle.std.proofs.Common.{◌≡◌, ◌+◌, ◌-◌, ◌≤◌, length}
 use Rattle.dfuse_file.specs.Reading.{elements_in}
-use Rattle.dfuse_file.specs.Walking.{between, walked_of}
+use Rattle.dfuse_file.specs.Walking.{walked_of}
 use Rattle.dfuse_file.proofs.walk.walk_elements.Given as goal
 
-abbrev pub invariant-loop-k : goal.invariant-loop-k
-invariant-loop-k l =
-    (l.p ≤ l.end) × (l.end ≤ length l.file) × (l.t.seen ≤ l.p)
-    × (walked_of l.target l.setting l.wanted l.t l.p (elements_in l.k l.p (between l.file l.p l.end)) ≡ walked_of l.target l.setting l.wanted l.initial.t l.initial.p (elements_in l.initial.k l.initial.p (between l.file l.initial.p l.end)))
-
-abbrev pub decreases-loop-k : goal.decreases-loop-k
-decreases-loop-k l = l.k
+abbrev pub invariant-loop : goal.invariant-loop
+invariant-loop l =
+    let p = l.rest in
+    let e = l.elements in
+    (l.tally.seen ≤ p.at) × (p.at + length p.bytes.now ≡ e.at + length e.bytes.now)
+    × (walked_of l.index l.target.setting l.tally p.at (elements_in (l.end - l.counter) p.at p.bytes.now) ≡ walked_of l.index l.target.setting l.initial.tally e.at (elements_in l.end e.at e.bytes.now))

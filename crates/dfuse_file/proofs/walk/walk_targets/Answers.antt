@@ -1,69 +1,55 @@
 -- `walk_targets` meets its contract: a law for each way out of the loop.
-use Prim.Native.Nat.{ℕ, ◌+◌, ◌-◌}
-use mathlib.Core.Path.{◌≡◌, sym, ap, ◌∙◌}
-use native.Mathlib.Omega.{arith}
-use Rattle.dfuse_file.specs.declared.walk.Tally.{Tally}
-use Rattle.dfuse_file.specs.declared.walk.Walked.{Walked}
-use Rattle.dfuse_file.specs.declared.walk.Head.{Head}
-use Rattle.dfuse_file.specs.Reading.{targets_in}
-use Rattle.dfuse_file.specs.Walking.{between, came_of, target_in, head_in, walked_in, walked_all}
-use Rattle.dfuse_file.proofs.TargetWalk.{no_head, fits_in, faulty, onward, seen_within, not_filled, done}
+use Rattle.std.proofs.Common.{◌≡◌, ℕ, ◌+◌, ◌-◌, Err, length, length-drop, ap, sym, ◌∙◌, arith, rules}
+use Rattle.std.proofs.Math.ListN.{length-take}
+use Rattle.dfuse_file.proofs.TargetWalk.{no_head, fits_in, faulty, onward, not_filled, done}
 use Rattle.dfuse_file.proofs.walk.walk_targets.Goals as goal
 
-pub returns-in-Fault : goal.returns-in-Fault
-returns-in-Fault c =
-    let l = c.loop-j in
+pub returns-in_err-size : goal.returns-in_err-size
+returns-in_err-size c =
+    let l = c.loop-index in
     let a = c.args in
-    let f = a.file.now in
-    no_head f l.p a.end l.invariant.0 l.invariant.1 a.wanted l.j l.t (a.n - l.j) _ (omega (arith, c.loop-j-test.true))
-    (c.in-Fault.ensures)
-    ∙ l.invariant.4
+    let r : c.from_residual.result ≡ Err c.in_err-size.field-0.0 = search rules in
+    r ∙ no_head l.index l.tally l.rest.at l.rest.bytes.now (a.n - l.index) _ (omega (arith, c.loop-index-test.true)) c.in_err-size.ensures ∙ l.invariant.1
 
-pub returns-in-Fault-walked : goal.returns-in-Fault-walked
-returns-in-Fault-walked c =
-    let l = c.loop-j in
-    let a = c.args in
-    let f = a.file.now in
-    let z = c.in-Size.size in
-    faulty f l.p a.end l.invariant.0 l.invariant.1 a.wanted l.j l.t z (c.in-Size.ensures)
-    (a.n - l.j) _ (omega (arith, c.loop-j-test.true))
-    (c.in-Fault-walked.ensures
-    ∙ ap (λ (y : Tally). walked_in f l.j l.p (l.p + (274 + z)) a.wanted y) c.came.ensures)
-    ∙ l.invariant.4
+pub up_to-elements-requires : goal.up_to-elements-requires
+up_to-elements-requires c =
+    let l = c.loop-index in
+    let h = fits_in l.index l.tally l.rest.at l.rest.bytes.now c.in_ok-size.field-0 c.in_ok-size.ensures in
+    rw c.after.ensures.bytes (omega (arith, h, length-drop 274 l.rest.bytes.now))
 
-pub loop-j-preserved : goal.loop-j-preserved
-loop-j-preserved c =
-    let l = c.loop-j in
+pub returns-in_err-tally : goal.returns-in_err-tally
+returns-in_err-tally c =
+    let l = c.loop-index in
     let a = c.args in
-    let f = a.file.now in
-    let h = c.loop-j-test.true in
-    let z = c.in-Size.size in
-    let x = c.in-Fine.x in
-    let w : Head.Size z ≡ head_in l.p (between f l.p a.end) =
-    c.in-Size.ensures in
-    let v : Walked.Fine x ≡ walked_in f l.j l.p (l.p + (274 + z)) a.wanted (came_of l.t a.wanted l.j (target_in f l.p l.t.seen)) =
-    c.in-Fine.ensures
-    ∙ ap (λ (y : Tally). walked_in f l.j l.p (l.p + (274 + z)) a.wanted y) c.came.ensures in
-    let k : a.n - (l.j + 1) ≡ a.n - l.j - 1 = omega arith in (
-      omega (arith, fits_in f l.p a.end l.invariant.0 l.invariant.1 a.wanted l.j l.t z w, l.invariant.0),
-      l.invariant.1,
-      seen_within f l.p a.end l.invariant.0 l.invariant.1 a.wanted l.j l.t z w x l.invariant.2 v,
-      omega (arith, h),
-      ap (λ (m : ℕ). walked_all a.wanted (l.j + 1) x (l.p + (274 + z)) (targets_in m (l.p + (274 + z)) (between f (l.p + (274 + z)) a.end))) k
-          ∙ sym (onward f l.p a.end l.invariant.0 l.invariant.1 a.wanted l.j l.t z w (a.n - l.j) x (omega (arith, h)) v)
-          ∙ l.invariant.4,
+    let p = c.up_to-elements.ensures in
+    let q = c.after.ensures in
+    let r : c.from_residual-in_err-tally.result ≡ Err c.in_err-tally.field-0.0 = search rules in
+    let v = simp (p.at, p.bytes, q.at, q.bytes, c.come_to.ensures, c.target-target.ensures) at c.in_err-tally.ensures.walked in
+    r ∙ faulty l.index l.tally l.rest.at l.rest.bytes.now c.in_ok-size.field-0 c.in_ok-size.ensures (a.n - l.index) _ (omega (arith, c.loop-index-test.true)) v ∙ l.invariant.1
+
+pub loop-index-preserved : goal.loop-index-preserved
+loop-index-preserved c =
+    let l = c.loop-index in
+    let a = c.args in
+    let s = l.rest.bytes.now in
+    let z : ℕ = c.in_ok-size.field-0 in
+    let w = c.in_ok-size.ensures in
+    let p = c.up_to-elements.ensures in
+    let q = c.after.ensures in
+    let n = c.after-rest.ensures in
+    let v = simp (p.at, p.bytes, q.at, q.bytes, c.come_to.ensures, c.target-target.ensures) at c.in_ok-tally.ensures.walked in
+    let j : a.n - (l.index + 1) ≡ a.n - l.index - 1 = omega arith in
+    rw (n.at, n.bytes, j) (
+      omega (arith, c.in_ok-tally.ensures.bounded, p.at, q.at, ap length p.bytes, length-take z c.after.result.bytes.now),
+      sym (onward l.index l.tally l.rest.at s z w (a.n - l.index) _ (omega (arith, c.loop-index-test.true)) v) ∙ l.invariant.1,
     )
 
-pub returns-then-p-end : goal.returns-then-p-end
-returns-then-p-end c =
-    let l = c.loop-j in
-    let a = c.args in
-    let f = a.file.now in
-    not_filled f l.p a.end l.invariant.0 l.invariant.1 a.wanted l.j l.t (a.n - l.j) (omega (arith, c.loop-j-test.false)) c.if-p-end.true ∙ l.invariant.4
+pub returns-then-not-is_empty : goal.returns-then-not-is_empty
+returns-then-not-is_empty c =
+    let l = c.loop-index in
+    not_filled l.index l.tally l.rest.at l.rest.bytes.now (c.args.n - l.index) (omega (arith, c.loop-index-test.false)) (sym c.if-not-is_empty.ensures) ∙ l.invariant.1
 
 pub returns : goal.returns
 returns c =
-    let l = c.loop-j in
-    let a = c.args in
-    let f = a.file.now in
-    done f l.p a.end l.invariant.0 l.invariant.1 a.wanted l.j l.t (a.n - l.j) (omega (arith, c.loop-j-test.false)) c.if-p-end.false ∙ l.invariant.4
+    let l = c.loop-index in
+    done l.index l.tally l.rest.at l.rest.bytes.now (c.args.n - l.index) (omega (arith, c.loop-index-test.false)) (sym c.if-not-is_empty.ensures) ∙ l.invariant.1

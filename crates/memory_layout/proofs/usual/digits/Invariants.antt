@@ -1,9 +1,6 @@
-use Rattle.std.proofs.Common.{◌-◌, ◌<◌, length}
+use Rattle.std.proofs.Common.{◌≡◌, ◌+◌, ◌<◌}
 use Rattle.memory_layout.specs.Usual.{ReadAt}
 use Rattle.memory_layout.proofs.usual.digits.Given as goal
 
-abbrev pub invariant-loop-i : goal.invariant-loop-i
-invariant-loop-i l = (l.v < 4294967296) × ReadAt l.s l.from l.i l.v
-
-abbrev pub decreases-loop-i : goal.decreases-loop-i
-decreases-loop-i l = length l.s - l.i
+abbrev pub invariant-loop-byte : goal.invariant-loop-byte
+invariant-loop-byte l = (l.value < 4294967296) × (l.end ≡ l.from + l.byte-index) × ReadAt l.text l.from l.end l.value

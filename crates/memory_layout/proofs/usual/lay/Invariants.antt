@@ -1,9 +1,6 @@
-use Rattle.std.proofs.Common.{◌-◌, ◌≤◌}
-use Rattle.memory_layout.proofs.Laid.{Placed}
+use Rattle.std.proofs.Common.{◌≡◌, ◌++◌, length, take, drop}
+use Rattle.memory_layout.specs.Usual.{laid}
 use Rattle.memory_layout.proofs.usual.lay.Given as goal
 
-abbrev pub invariant-loop-j : goal.invariant-loop-j
-invariant-loop-j l = (l.j ≤ l.n) × Placed l.runs l.j l.at l.initial.store l.store
-
-abbrev pub decreases-loop-j : goal.decreases-loop-j
-decreases-loop-j l = l.n - l.j
+abbrev pub invariant-loop-run : goal.invariant-loop-run
+invariant-loop-run l = (l.at ≡ length (laid (take l.run-index l.runs))) × (l.store ≡ laid (take l.run-index l.runs) ++ drop l.at l.initial.store)

@@ -2,8 +2,8 @@ use Rattle.std.proofs.Common.{◌-◌, length}
 use Rattle.memory_layout.proofs.Runs.{ReadTo}
 use Rattle.memory_layout.proofs.usual.read_runs.Given as goal
 
-abbrev pub invariant-loop-count : goal.invariant-loop-count
-invariant-loop-count l = ReadTo l.text l.room l.runs l.a l.n l.k
+abbrev pub invariant-loop-piece : goal.invariant-loop-piece
+invariant-loop-piece l = ReadTo l.text l.room l.runs l.at l.pages l.kept
 
-abbrev pub decreases-loop-count : goal.decreases-loop-count
-decreases-loop-count l = length l.text - l.a
+abbrev pub decreases-loop-piece : goal.decreases-loop-piece
+decreases-loop-piece l = length l.text - l.at

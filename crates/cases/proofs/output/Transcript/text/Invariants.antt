@@ -1,0 +1,10 @@
+-- So many of them were told.
+use Rattle.std.proofs.Common.{take, [], ◌∷◌, Ok}
+use Rattle.std.specs.declared.io.Error.{Error}
+use Rattle.cases.specs.Output.{filled, Tells, joined}
+use Rattle.cases.proofs.output.Transcript.text.Given as goal
+
+abbrev pub invariant-loop-b : goal.invariant-loop-b
+invariant-loop-b g l =
+    Tells {E = Error} (g.W.Write.contents l.initial.sink) (filled l.initial.self.bytes.now l.initial.self.held) (g.W.Write.contents l.sink) (filled l.self.bytes.now l.self.held)
+    (joined (λ b. b ∷ []) (take l.b-index l.s)) (Ok tt)

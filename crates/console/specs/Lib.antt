@@ -1,0 +1,4 @@
+pub mod Came
+pub mod Counted
+pub mod Problem
+pub mod Whole
