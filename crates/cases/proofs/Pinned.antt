@@ -1,6 +1,6 @@
 -- Each public call is pinned down: two outcomes that its contract allows, at the same arguments, are equal; of a call that writes, two that are both good. Assumes nothing.
 use Prim.Native.Nat.{ℕ}
-use mathlib.Core.Path.{◌≡◌, sym, ◌∙◌}
+use mathlib.Core.Path.{◌≡◌, sym, ap₂, ◌∙◌}
 use contract.Lifetimes.{Lfts}
 use borrow.Fn.World.{ResD}
 use denote.Triple.Clauses.{AtExit}
@@ -19,7 +19,7 @@ use Rattle.cases.specs.declared.words.Amount.{Amount}
 use Rattle.cases.specs.declared.words.Bytes.{Bytes}
 use Rattle.std.specs.Prelude.{Option}
 use Rattle.cases.specs.Words.{taken, stored}
-use Rattle.cases.specs.Output.{filled}
+use Rattle.cases.specs.Output.{Filled, filled}
 use Rattle.cases.proofs.words.digits.Kinds as digits_kinds
 use Rattle.cases.proofs.words.digits.Reads as digits_reads
 use Rattle.cases.proofs.words.number.Kinds as number_kinds
@@ -89,33 +89,71 @@ abbrev pub PinsOk : {n : ℕ} (ps : List (ParamKind n)) (r : ResultKind n) {V O 
 PinsOk {n} ps r {V} {O} {E} post out =
     (κs : Lfts n) (a : Dens {n = n} κs ps) (x y : V) (s t : AtExit (ended_of n ps r) κs) → post κs a (Ok x) s → post κs a (Ok y) t → out κs x s ≡ out κs y t
 
+-- what a call that writes leaves: what is held, and by its name the buffer that holds it
+pub record Left : Type 0 where
+  pub holds : Filled
+  pub buffer : ℕ
+
+abbrev pub leaves : Filled → ℕ → Left
+leaves f name = record { holds = f; buffer = name }
+
 module _ (T : RattleType) (L : Laws T) (W : Ghosts T.Denot) (D : Dict) where
-  pub pinned_byte : PinsOk (byte_kinds.ps T L) (byte_kinds.r T L) {V = Unit {0}} {E = Error} (byte_reads.Post T L W D) (λ κs r s. filled s.0.now.bytes.now s.0.now.held)
-  pinned_byte κs a x y s t p q = (byte_reads.post-apart T L W D κs a (Ok x) s p).told.held ∙ sym (byte_reads.post-apart T L W D κs a (Ok y) t q).told.held
+  pub pinned_byte : PinsOk (byte_kinds.ps T L) (byte_kinds.r T L) {V = Unit {0}} {E = Error} (byte_reads.Post T L W D) (λ κs r s. leaves (filled s.0.now.bytes.now s.0.now.held) s.0.now.bytes.ghost_name)
+  pinned_byte κs a x y s t p q =
+      let m = byte_reads.post-apart T L W D κs a (Ok x) s p in
+      let n = byte_reads.post-apart T L W D κs a (Ok y) t q in
+      ap₂ leaves (m.told.held ∙ sym n.told.held) (m.lent ∙ sym n.lent)
 
-  pub pinned_text : PinsOk (text_kinds.ps T L) (text_kinds.r T L) {V = Unit {0}} {E = Error} (text_reads.Post T L W D) (λ κs r s. filled s.0.now.bytes.now s.0.now.held)
-  pinned_text κs a x y s t p q = p.held ∙ sym q.held
+  pub pinned_text : PinsOk (text_kinds.ps T L) (text_kinds.r T L) {V = Unit {0}} {E = Error} (text_reads.Post T L W D) (λ κs r s. leaves (filled s.0.now.bytes.now s.0.now.held) s.0.now.bytes.ghost_name)
+  pinned_text κs a x y s t p q =
+      let m = text_reads.post-apart T L W D κs a (Ok x) s p in
+      let n = text_reads.post-apart T L W D κs a (Ok y) t q in
+      ap₂ leaves (m.told.held ∙ sym n.told.held) (m.lent ∙ sym n.lent)
 
-  pub pinned_value : PinsOk (value_kinds.ps T L) (value_kinds.r T L) {V = Unit {0}} {E = Error} (value_reads.Post T L W D) (λ κs r s. filled s.0.now.bytes.now s.0.now.held)
-  pinned_value κs a x y s t p q = p.held ∙ sym q.held
+  pub pinned_value : PinsOk (value_kinds.ps T L) (value_kinds.r T L) {V = Unit {0}} {E = Error} (value_reads.Post T L W D) (λ κs r s. leaves (filled s.0.now.bytes.now s.0.now.held) s.0.now.bytes.ghost_name)
+  pinned_value κs a x y s t p q =
+      let m = value_reads.post-apart T L W D κs a (Ok x) s p in
+      let n = value_reads.post-apart T L W D κs a (Ok y) t q in
+      ap₂ leaves (m.told.held ∙ sym n.told.held) (m.lent ∙ sym n.lent)
 
-  pub pinned_values : PinsOk (values_kinds.ps T L) (values_kinds.r T L) {V = Unit {0}} {E = Error} (values_reads.Post T L W D) (λ κs r s. filled s.0.now.bytes.now s.0.now.held)
-  pinned_values κs a x y s t p q = p.held ∙ sym q.held
+  pub pinned_values : PinsOk (values_kinds.ps T L) (values_kinds.r T L) {V = Unit {0}} {E = Error} (values_reads.Post T L W D) (λ κs r s. leaves (filled s.0.now.bytes.now s.0.now.held) s.0.now.bytes.ghost_name)
+  pinned_values κs a x y s t p q =
+      let m = values_reads.post-apart T L W D κs a (Ok x) s p in
+      let n = values_reads.post-apart T L W D κs a (Ok y) t q in
+      ap₂ leaves (m.told.held ∙ sym n.told.held) (m.lent ∙ sym n.lent)
 
-  pub pinned_pages : PinsOk (pages_kinds.ps T L) (pages_kinds.r T L) {V = Unit {0}} {E = Error} (pages_reads.Post T L W D) (λ κs r s. filled s.0.now.bytes.now s.0.now.held)
-  pinned_pages κs a x y s t p q = p.held ∙ sym q.held
+  pub pinned_pages : PinsOk (pages_kinds.ps T L) (pages_kinds.r T L) {V = Unit {0}} {E = Error} (pages_reads.Post T L W D) (λ κs r s. leaves (filled s.0.now.bytes.now s.0.now.held) s.0.now.bytes.ghost_name)
+  pinned_pages κs a x y s t p q =
+      let m = pages_reads.post-apart T L W D κs a (Ok x) s p in
+      let n = pages_reads.post-apart T L W D κs a (Ok y) t q in
+      ap₂ leaves (m.told.held ∙ sym n.told.held) (m.lent ∙ sym n.lent)
 
-  pub pinned_refused : PinsOk (refused_kinds.ps T L) (refused_kinds.r T L) {V = Unit {0}} {E = Error} (refused_reads.Post T L W D) (λ κs r s. filled s.0.now.bytes.now s.0.now.held)
-  pinned_refused κs a x y s t p q = p.held ∙ sym q.held
+  pub pinned_refused : PinsOk (refused_kinds.ps T L) (refused_kinds.r T L) {V = Unit {0}} {E = Error} (refused_reads.Post T L W D) (λ κs r s. leaves (filled s.0.now.bytes.now s.0.now.held) s.0.now.bytes.ghost_name)
+  pinned_refused κs a x y s t p q =
+      let m = refused_reads.post-apart T L W D κs a (Ok x) s p in
+      let n = refused_reads.post-apart T L W D κs a (Ok y) t q in
+      ap₂ leaves (m.told.held ∙ sym n.told.held) (m.lent ∙ sym n.lent)
 
-  pub pinned_said : PinsOk (said_kinds.ps T L) (said_kinds.r T L) {V = Unit {0}} {E = Error} (said_reads.Post T L W D) (λ κs r s. filled s.0.now.bytes.now s.0.now.held)
-  pinned_said κs a x y s t p q = p.held ∙ sym q.held
+  pub pinned_said : PinsOk (said_kinds.ps T L) (said_kinds.r T L) {V = Unit {0}} {E = Error} (said_reads.Post T L W D) (λ κs r s. leaves (filled s.0.now.bytes.now s.0.now.held) s.0.now.bytes.ghost_name)
+  pinned_said κs a x y s t p q =
+      let m = said_reads.post-apart T L W D κs a (Ok x) s p in
+      let n = said_reads.post-apart T L W D κs a (Ok y) t q in
+      ap₂ leaves (m.told.held ∙ sym n.told.held) (m.lent ∙ sym n.lent)
 
-  pub pinned_hex_written : PinsOk (hex_written_kinds.ps T L) (hex_written_kinds.r T L) {V = Unit {0}} {E = Error} (hex_written_reads.Post T L W D) (λ κs r s. filled s.0.now.bytes.now s.0.now.held)
-  pinned_hex_written κs a x y s t p q = p.held ∙ sym q.held
+  pub pinned_hex_written : PinsOk (hex_written_kinds.ps T L) (hex_written_kinds.r T L) {V = Unit {0}} {E = Error} (hex_written_reads.Post T L W D) (λ κs r s. leaves (filled s.0.now.bytes.now s.0.now.held) s.0.now.bytes.ghost_name)
+  pinned_hex_written κs a x y s t p q =
+      let m = hex_written_reads.post-apart T L W D κs a (Ok x) s p in
+      let n = hex_written_reads.post-apart T L W D κs a (Ok y) t q in
+      ap₂ leaves (m.told.held ∙ sym n.told.held) (m.lent ∙ sym n.lent)
 
-  pub pinned_line_end : PinsOk (line_end_kinds.ps T L) (line_end_kinds.r T L) {V = Unit {0}} {E = Error} (line_end_reads.Post T L W D) (λ κs r s. filled s.0.now.bytes.now s.0.now.held)
-  pinned_line_end κs a x y s t p q = (line_end_reads.post-apart T L W D κs a (Ok x) s p).told.held ∙ sym (line_end_reads.post-apart T L W D κs a (Ok y) t q).told.held
+  pub pinned_line_end : PinsOk (line_end_kinds.ps T L) (line_end_kinds.r T L) {V = Unit {0}} {E = Error} (line_end_reads.Post T L W D) (λ κs r s. leaves (filled s.0.now.bytes.now s.0.now.held) s.0.now.bytes.ghost_name)
+  pinned_line_end κs a x y s t p q =
+      let m = line_end_reads.post-apart T L W D κs a (Ok x) s p in
+      let n = line_end_reads.post-apart T L W D κs a (Ok y) t q in
+      ap₂ leaves (m.told.held ∙ sym n.told.held) (m.lent ∙ sym n.lent)
 
-  pub pinned_bad_line : PinsOk (bad_line_kinds.ps T L) (bad_line_kinds.r T L) {V = Unit {0}} {E = Error} (bad_line_reads.Post T L W D) (λ κs r s. filled s.0.now.bytes.now s.0.now.held)
-  pinned_bad_line κs a x y s t p q = p.held ∙ sym q.held
+  pub pinned_bad_line : PinsOk (bad_line_kinds.ps T L) (bad_line_kinds.r T L) {V = Unit {0}} {E = Error} (bad_line_reads.Post T L W D) (λ κs r s. leaves (filled s.0.now.bytes.now s.0.now.held) s.0.now.bytes.ghost_name)
+  pinned_bad_line κs a x y s t p q =
+      let m = bad_line_reads.post-apart T L W D κs a (Ok x) s p in
+      let n = bad_line_reads.post-apart T L W D κs a (Ok y) t q in
+      ap₂ leaves (m.told.held ∙ sym n.told.held) (m.lent ∙ sym n.lent)

@@ -2,6 +2,6 @@
 use Rattle.cases.specs.Output.{pair_text}
 use Rattle.cases.proofs.output.Transcript.pair.Goals as goal
 
-pub returns : goal.returns
+pub returns-clause-told : goal.returns-clause-told
 unfolding pair_text
-returns g c = rw (← c.hex_digit.ensures, ← c.hex_digit-2.ensures) c.text.ensures
+returns-clause-told g c = rw (← c.hex_digit.ensures, ← c.hex_digit-2.ensures) c.text.ensures.told
