@@ -48,7 +48,7 @@ impl Moved {
                 expected: State::DfuIdle,
             });
         }
-        Ok(self.proceeded(todo?))
+        Ok(self.proceeded(todo))
     }
 
     // The second reply.
@@ -71,7 +71,7 @@ impl Moved {
     {
         let reply = GetStatusMessage::strict_from_bytes(bytes)?;
         match reply.judge(busy, target)? {
-            Met::Reached => Ok(self.proceeded(todo?)),
+            Met::Reached => Ok(self.proceeded(todo)),
             Met::Busy { poll_timeout } => Ok(Moved {
                 phase: Phase::Waiting(Wait::Pause {
                     busy,

@@ -1,5 +1,5 @@
 // One step: a transfer is issued, what the work wants is done, a count is taken.
-ghost use Rattle.std.specs.Prelude.{◌≡◌, Ok};
+ghost use Rattle.std.specs.Prelude.{◌≡◌};
 ghost use Rattle.machine.specs.Machine.{refuse, issue, proceed, on_count};
 
 use crate::{Moved, Phase};
@@ -32,20 +32,21 @@ impl Moved {
         }
     }
 
-    // What is wanted next is done: a command, or the end, with a USB reset first where one is due.
-    pub fn proceeded(self, todo: Todo) -> Moved
-        ensures { result ≡ proceed self.progress self.left (Ok todo) }
+    // What is wanted next is done: a command, or the end, with a USB reset first where one is due; what refuses it ends the session.
+    pub fn proceeded(self, todo: Result<Todo, Error>) -> Moved
+        ensures { result ≡ proceed self.progress self.left todo }
     {
         match todo {
-            Todo::Send { command, then } => self.issued(then, Phase::Sent(command)),
-            Todo::End(End::Stays) => Moved {
+            Ok(Todo::Send { command, then }) => self.issued(then, Phase::Sent(command)),
+            Ok(Todo::End(End::Stays)) => Moved {
                 phase: Phase::Finished(End::Stays),
                 ..self
             },
-            Todo::End(End::Reset) => Moved {
+            Ok(Todo::End(End::Reset)) => Moved {
                 phase: Phase::Resetting,
                 ..self
             },
+            Err(error) => self.refused(error),
         }
     }
 
