@@ -1,7 +1,7 @@
 // What the crates of the core stand on: little-endian numbers, a fixed byte string at a field's start, a version, what an answer says.
 #![tactic(auto)]
 
-ghost use Rattle.std.specs.Prelude.{◌≡◌, ◌≤◌, length, take};
+ghost use Rattle.std.specs.Prelude.{◌≡◌, ◌≤◌, ◌<◌, ◌^◌, length, take};
 ghost use Rattle.ground.specs.Bytes.{field, prefix};
 ghost use Rattle.ground.specs.Said.{Said, says, report_of, said_result, said_option};
 
@@ -19,7 +19,8 @@ pub fn starts_with(s: &[u8], p: &[u8]) -> bool
 // The number that the N bytes at a place are, lowest byte first; of bytes past the end nothing is read.
 fn number_at<const N: usize>(s: &[u8], at: usize) -> u64
     requires { N ≤ 8 }
-    ensures { result ≡ field at N s.now }
+    ensures value { result ≡ field at N s.now }
+    ensures small { result < 256 ^ N }
 {
     let rest = &s[at.min(s.len())..];
     let n = N.min(rest.len());

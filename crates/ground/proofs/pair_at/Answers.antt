@@ -1,9 +1,0 @@
--- `pair_at` meets its contract: so few bytes fit.
-use native.Mathlib.Omega.{arith}
-use Rattle.ground.proofs.Numbers.{bytes_of, field_small}
-use Rattle.ground.proofs.pair_at.Goals as goal
-
-pub overflow_cast-result : goal.overflow_cast-result
-overflow_cast-result c =
-    let a = c.args in
-    omega (arith, c.number_at.ensures, field_small a.at 2 a.s.now (bytes_of a.s.now (λ i. (c.type_inv.s i).fits)))
