@@ -71,7 +71,10 @@ part_is f e = ap (λ (r : Result Suffix Error). part_by r f) (sym e)
 -- the firmware part is so many bytes from the start as both at once say; of a file that is refused it is none
 by_length : (r : Result Suffix Error) (f : List ℕ) → MatchResult (checked_by r (length f)) (λ x. take x.firmware f ≡ part_by r f) (λ e. [] ≡ part_by r f)
 by_length (Ok s) f = refl
-by_length (Err e) f = refl
+by_length (Err Error.FileTooShort) f = refl
+by_length (Err Error.NoSignature) f = refl
+by_length (Err Error.WrongLength) f = refl
+by_length (Err Error.WrongCrc) f = refl
 
 pub checked_part : (f : List ℕ) → MatchResult (checked_of f) (λ x. take x.firmware f ≡ firmware_of f) (λ e. [] ≡ firmware_of f)
 unfolding firmware_of

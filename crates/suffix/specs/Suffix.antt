@@ -38,7 +38,10 @@ suffix_of file = pick (nat_lt (length file) 16) (Err Error.FileTooShort) (last_r
 -- the firmware part: all before the suffix, and nothing of a file that is refused
 abbrev pub part_by : Result Suffix Error → List ℕ → List ℕ
 part_by (Ok s) file = take (length file - 16) file
-part_by (Err e) file = []
+part_by (Err Error.FileTooShort) file = []
+part_by (Err Error.NoSignature) file = []
+part_by (Err Error.WrongLength) file = []
+part_by (Err Error.WrongCrc) file = []
 
 unfoldable pub firmware_of : List ℕ → List ℕ
 firmware_of file = part_by (suffix_of file) file
