@@ -14,6 +14,17 @@ first_table words rest n r j h =
     let k : 0 ≡ j / 256 = omega arith in
     let x : j ≡ j % 256 = omega arith in get_or-append words rest 0 j (omega arith) ∙ r j h ∙ ap₂ (λ (p q : ℕ). eights (suc p) q) k x
 
+-- what a place of the first table is made from: the byte itself
+pub byte_itself : (i : ℕ) → i < 256 → i ≡ eights (i / 256) (i % 256)
+unfolding eights
+byte_itself i h =
+    let k : 0 ≡ i / 256 = omega arith in
+    let x : i ≡ i % 256 = omega arith in ap₂ eights k x
+
+-- no place is laid out at first
+pub none : (t : List ℕ) → Laid t 0
+none t j h = absurd (omega arith)
+
 module _ (t : List ℕ) (i : ℕ) (l : Laid t i) where
   -- in a later table than the first the word a table before
   pub word_before : 256 ≤ i → get_or t (i - 256) 0 ≡ eights (i / 256) (i % 256)
@@ -36,10 +47,6 @@ module _ (t : List ℕ) (i : ℕ) (l : Laid t i) where
           ∙ get_or-set_same t i w 0 b
           ∙ f
           ∙ ap eight (xor_zero_r c ∙ e ∙ ap (λ (n : ℕ). eights (n / 256) (n % 256)) d)
-
-  -- the same as the loop has it, whose places begin after the first table
-  pub one_later : 256 ≤ i → (w : ℕ) → i < length t → w ≡ eight (bit_xor (get_or t (i - 256) 0) 0) → Laid (set t i w) (i + 1)
-  one_later h w b f = one_more (get_or t (i - 256) 0) w b (word_before h) f
 
 -- all of them are at the end
 pub all : (t : List ℕ) (i : ℕ) → 4096 ≤ i → Laid t i → Tables t

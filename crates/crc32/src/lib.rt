@@ -55,6 +55,15 @@ fn lowest(c: u32) -> u8
     (c & 255) as u8
 }
 
+// What a word of the tables is made from: the one 256 places before it, and in the first table the byte itself.
+fn source(words: &[u32; 4096], i: usize) -> u32
+    requires in_bounds { i < 4096 }
+    requires laid { Laid words.now i }
+    ensures { result ≡ eights (i / 256) (i % 256) }
+{
+    if i < 256 { i as u32 } else { words[i - 256] }
+}
+
 // The table that takes a byte at a time. It borrows its words, so that no call copies them.
 #[derive(Clone, Copy)]
 struct Table {
@@ -78,14 +87,13 @@ impl Table {
         bytes.iter().fold(start, |c, b| self.step(c, *b))
     }
 
-    // The sixteen tables, one after the other: the first is this one, and after it each word is made from the one 256 places before it.
+    // The sixteen tables, one after the other, laid out place after place. The first is this one, but no copy of it: a caller in C needs no
+    // `memcpy` for the archive.
     fn lay(&self, words: &mut [u32; 4096])
         ensures { Tables words.new }
     {
-        let first = self.words;
-        words[..256].copy_from_slice(first);
-        for i in 256..4096 {
-            words[i] = self.step(words[i - 256], 0);
+        for i in 0..4096 {
+            words[i] = self.step(source(words, i), 0);
         }
     }
 
