@@ -5,6 +5,7 @@ use std::env::Env;
 use std::fs::Files;
 
 // Reads the file that the word at a place names.
+#[inline(never)]
 pub fn read<'a>(
     rt: &(impl Env + Files + Print),
     at: usize,

@@ -19,12 +19,13 @@ use std::env::Env;
 use std::fs::Files;
 use std::io;
 use stop::Stop;
+use words::Words;
 
-// Reads the interface string, whose pages go into a store, and the firmware, and rehearses its download.
-fn rehearse(rt: &(impl Env + Files + Print)) -> Result<(), Stop> {
-    let Some(words) = words::read(rt)? else {
-        return Ok(usage::show(rt)?);
-    };
+// Reads the interface string, whose pages go into a store, and the firmware, and rehearses its download. Never inlined, nor is what reads
+// them: a function takes the stack and the time of its locals where it begins, so what is refused before needs no space for a file, and
+// a word's space is gone when the rehearsal begins.
+#[inline(never)]
+fn with_words(rt: &(impl Env + Files + Print), words: Words) -> Result<(), Stop> {
     let mut store = [0u32; MAX_PAGES];
     let interface = string::read(rt, words, &mut store)?;
     let mut space = [0u8; FILE_SPACE];
@@ -36,6 +37,14 @@ fn rehearse(rt: &(impl Env + Files + Print)) -> Result<(), Stop> {
         pages: store.get(..interface.pages).unwrap_or(&store),
     };
     rehearsal.show(rt)
+}
+
+// Reads the words, and rehearses what they say.
+fn rehearse(rt: &(impl Env + Files + Print)) -> Result<(), Stop> {
+    match words::read(rt)? {
+        Some(words) => with_words(rt, words),
+        None => Ok(usage::show(rt)?),
+    }
 }
 
 fn main(rt: HostRuntime) -> io::Result<()> {

@@ -1,4 +1,6 @@
 // A download from its start to its end, and what is told about it.
+ghost use Rattle.std.specs.Prelude.{◌≡◌};
+
 use crate::run::Run;
 use crate::stop::{Stop, refuse};
 use crate::words::Words;
@@ -23,19 +25,22 @@ pub struct Rehearsal<'a> {
 
 impl Rehearsal<'_> {
     // The device that the words describe.
-    fn sans_io(self) -> DfuSansIo {
+    fn sans_io(self) -> DfuSansIo
+        ensures { result.override_address ≡ self.entry.words.options.address }
+    {
         let options = self.words.options;
-        DfuSansIo {
-            descriptor: FunctionalDescriptor {
-                can_download: true,
-                can_upload: false,
-                manifestation_tolerant: options.tolerant,
-                will_detach: options.detach,
-                detach_timeout: 0,
-                transfer_size: self.words.size,
-                dfu_version: Version(1, 1),
-            },
-            override_address: options.address,
+        let io = DfuSansIo::new(FunctionalDescriptor {
+            can_download: true,
+            can_upload: false,
+            manifestation_tolerant: options.tolerant,
+            will_detach: options.detach,
+            detach_timeout: 0,
+            transfer_size: self.words.size,
+            dfu_version: Version(1, 1),
+        });
+        match options.address {
+            Some(address) => io.set_address(address),
+            None => io,
         }
     }
 

@@ -79,6 +79,7 @@ fn show(rt: &impl Print, string: &[u8], part: Range<usize>) -> io::Result<()> {
 }
 
 // Reads the string, whose pages go into the store, or shows why not.
+#[inline(never)]
 pub fn read(rt: &(impl Env + Print), words: Words, store: &mut [u32]) -> Result<Interface, Stop> {
     let mut space = [0u8; LONGEST_WORD];
     let string = word(rt, words.string, &mut space).unwrap_or(&[]);

@@ -205,6 +205,7 @@ fn all(rt: &(impl Env + Print)) -> Result<Begun, Stop> {
 }
 
 // What the command line asks to rehearse, or nothing if it asks for help: so it does too with no words at all.
+#[inline(never)]
 pub fn read(rt: &(impl Env + Print)) -> Result<Option<Words>, Stop> {
     if !is_there(rt, 1) {
         return Ok(None);
