@@ -17,14 +17,15 @@ pub fn fill(firmware: &mut [u8; LONGEST]) {
     }
 }
 
-// Whether bytes are those from a place on. Looking at each is faster than stopping at the first other.
+// Whether bytes are those from a place on. Looking at each is faster than stopping at the first other, and the bounds are looked at before
+// all of them, so that the loop needs none.
 pub fn follows(bytes: &[u8], place: usize) -> bool {
-    if LONGEST < place {
+    if LONGEST < place || LONGEST - place < bytes.len() {
         return false;
     }
     let mut other: u8 = 0;
     for (i, b) in bytes.iter().enumerate() {
         other |= *b ^ byte(place + i);
     }
-    other == 0 && bytes.len() <= LONGEST - place
+    other == 0
 }

@@ -18,32 +18,22 @@ pub enum Kind {
 // The most bytes that a line may have.
 const LONGEST: usize = 65535;
 
-// What a line is by its first word; what follows the word is left to the case's own reader.
+// What a line is by its first word; what follows the word is left to the case's own reader. The first byte tells most lines apart before a
+// word is compared.
 pub fn of(line: &[u8]) -> Kind {
     if LONGEST < line.len() {
         return Kind::Bad;
     }
     match line {
         [] | [b'#', ..] => Kind::Passed,
+        [b'd', ..] if line.starts_with(b"descriptor ") => Kind::Descriptor,
         b"detach" => Kind::Detach,
-        _ => by_word(line),
+        [b'r', ..] if line.starts_with(b"reply ") => Kind::Reply,
+        [b'l', ..] if line.starts_with(b"layout ") => Kind::Layout,
+        [b'b', ..] if line.starts_with(b"begin ") => Kind::Begin,
+        [b's', ..] if line.starts_with(b"string ") => Kind::String,
+        [b's', ..] if line.starts_with(b"session ") => Kind::Session,
+        [b's', ..] if line.starts_with(b"suffix ") => Kind::Suffix,
+        _ => Kind::Bad,
     }
-}
-
-fn by_word(line: &[u8]) -> Kind {
-    let kinds: [(&[u8], Kind); 7] = [
-        (b"descriptor ", Kind::Descriptor),
-        (b"reply ", Kind::Reply),
-        (b"layout ", Kind::Layout),
-        (b"string ", Kind::String),
-        (b"begin ", Kind::Begin),
-        (b"session ", Kind::Session),
-        (b"suffix ", Kind::Suffix),
-    ];
-    for (word, kind) in kinds {
-        if line.starts_with(word) {
-            return kind;
-        }
-    }
-    Kind::Bad
 }

@@ -24,18 +24,25 @@ pub fn clear(pages: &mut [u32], n: usize) {
     }
 }
 
-fn size_at(line: &[u8], at: usize, count: usize) -> Option<Run> {
-    let Amount { value, end } = words::digits(line, at, u64::from(u32::MAX))?;
-    let page = u32::try_from(value).ok()?;
-    Some(Run { count, page, end })
+// A run of so many pages of a size that was read.
+fn run_of(count: usize, size: Amount) -> Option<Run> {
+    let page = u32::try_from(size.value).ok()?;
+    Some(Run {
+        count,
+        page,
+        end: size.end,
+    })
 }
 
 // `SIZE` or `COUNTxSIZE`
 fn run_at(line: &[u8], at: usize) -> Option<Run> {
     let first = words::digits(line, at, u64::from(u32::MAX))?;
     match words::past(line, first.end, b"x") {
-        Some(from) => size_at(line, from, first.value as usize),
-        None => size_at(line, at, 1),
+        Some(from) => {
+            let size = words::digits(line, from, u64::from(u32::MAX))?;
+            run_of(first.value as usize, size)
+        }
+        None => run_of(1, first),
     }
 }
 
